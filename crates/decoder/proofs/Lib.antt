@@ -1,0 +1,10 @@
+-- Laws that belong to no one function.
+pub mod Bools
+pub mod Others
+pub mod Says
+pub mod Rebuilt
+pub mod Classes
+pub mod Masks
+pub mod Roles
+pub mod Apart
+pub mod Unique

@@ -1,0 +1,54 @@
+-- Roles: slot 0 is never inner; a word is inner exactly when it and the word before it in its bundle are one of the pairs; a head in
+-- slot 0 makes the other three data, whatever they are.
+use Prim.Native.Nat.{ℕ, zero, suc, _<_}
+use native.Mathlib.Omega.{arith}
+use native.Mathlib.Nat.{not-suc-le-zero, le-of-suc-le-suc}
+use mathlib.Core.Path.{_≡_, _∙_, refl, sym}
+use mathlib.Core.Logic.{_↔_}
+use mathlib.Core.Bool.{Bool, true, false, cond}
+use mathlib.Core.List.{List, [], _∷_}
+use lib.ListN.{getD}
+use lib.Dec.{eqb}
+use Rattle.decoder.specs.Mask.{isMask, isDataMask, isBranchMask, isTest}
+use Rattle.decoder.specs.Question.{baseOf, branchRegister, writesSp, keepsFlags}
+use Rattle.decoder.specs.Pair.{canBeGuarded, maskGuards, testGuards, branchGuards, closes, isPair}
+use Rattle.decoder.specs.Bundle.{headWord, headReading, literalReading, readingsOf, plain, inner, data′, head, roleAlone, roleAfter, blank, rolesOf}
+use Rattle.decoder.specs.declared.reading.Reading.{Reading}
+use Rattle.decoder.specs.declared.reading.Kind.{Kind}
+use Rattle.decoder.specs.declared.reading.Kind.the-variants.{Unlisted, Data, HalfMove, Nop, Multiply, Access, LiteralLoad, Branch, RegisterBranch, Head, Literal}
+use Rattle.decoder.proofs.Bools.{by-test}
+
+alone-not-inner : (k : Kind) → roleAlone k ≡ inner → ⊥
+unfolding roleAlone
+alone-not-inner Unlisted e = omega arith
+alone-not-inner (Data f) e = omega arith
+alone-not-inner (HalfMove a b c) e = omega arith
+alone-not-inner Nop e = omega arith
+alone-not-inner (Multiply f) e = omega arith
+alone-not-inner (Access f) e = omega arith
+alone-not-inner (LiteralLoad a b c) e = omega arith
+alone-not-inner (Branch a b) e = omega arith
+alone-not-inner (RegisterBranch a b) e = omega arith
+alone-not-inner Head e = omega arith
+alone-not-inner (Literal a) e = omega arith
+
+after-inner : (first second : Reading) → (roleAfter first second ≡ inner) ↔ (isPair first second ≡ true)
+unfolding roleAfter
+after-inner first second =
+    ((λ e. by-test (isPair first second) (λ p. p) (λ p. absurd (alone-not-inner (second .kind) (simp p at e)))), λ p. simp p)
+
+pub slot-0-never-inner : (rs : List Reading) → getD (rolesOf rs) 0 0 ≡ inner → ⊥
+unfolding rolesOf
+slot-0-never-inner rs e = alone-not-inner (getD rs 0 blank .kind) e
+
+pub inner-exactly : (rs : List Reading) (slot : ℕ) → slot < 3
+    → (getD (rolesOf rs) (suc slot) 0 ≡ inner) ↔ (isPair (getD rs slot blank) (getD rs (suc slot) blank) ≡ true)
+unfolding rolesOf
+inner-exactly rs zero h = after-inner (getD rs 0 blank) (getD rs 1 blank)
+inner-exactly rs (suc zero) h = after-inner (getD rs 1 blank) (getD rs 2 blank)
+inner-exactly rs (suc (suc zero)) h = after-inner (getD rs 2 blank) (getD rs 3 blank)
+inner-exactly rs (suc (suc (suc n))) h = absurd (not-suc-le-zero (le-of-suc-le-suc (le-of-suc-le-suc (le-of-suc-le-suc h))))
+
+pub head-makes-data : (a b c : ℕ) → rolesOf (readingsOf (headWord ∷ a ∷ b ∷ c ∷ [])) ≡ head ∷ data′ ∷ data′ ∷ data′ ∷ []
+unfolding rolesOf readingsOf headWord headReading literalReading roleAlone roleAfter isPair maskGuards testGuards branchGuards closes canBeGuarded baseOf branchRegister writesSp
+head-makes-data a b c = refl

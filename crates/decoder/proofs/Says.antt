@@ -1,0 +1,108 @@
+-- What a class says of the bits of a word that it takes, as facts on numbers: the laws that stand for the definitions' text.
+use Prim.Native.Nat.{ℕ}
+use mathlib.Core.Path.{_≡_}
+use mathlib.Core.Logic.{_⊎_, inl, inr, ⊎-elim, ⊎-map}
+use mathlib.Core.Bool.{Bool, true, false, not, _&&_, _||_}
+use lib.Dec.{eqb}
+use borrow.Author.Tests.{eqb-true}
+use Rattle.decoder.specs.Bits.{bits}
+use Rattle.decoder.specs.Word.{rnOf, rdOf, operationOf, sOf, dataShape, isCompare, isMove, isData, isHalfMove, isMultiply, isAnyAccess, isLiteralLoad, isAccess, isRegisterBranch}
+use Rattle.decoder.proofs.Bools.{both, either, implies}
+
+-- two equations of a number, from a test of both
+one-of : (x a b : ℕ) → eqb x a || eqb x b ≡ true → (x ≡ a) ⊎ (x ≡ b)
+unfolding ⊎-map
+one-of x a b e = ⊎-map (eqb-true x a) (eqb-true x b) (either (eqb x a) (eqb x b) e)
+
+abbrev pub Shape : ℕ → Type 0
+Shape w = (bits w 27 25 ≡ 1) ⊎ ((bits w 27 25 ≡ 0) × ((bits w 4 4 ≡ 0) ⊎ ((bits w 7 7 ≡ 0) × (bits w 4 4 ≡ 1))))
+
+pub data-shape : (w : ℕ) → isData w ≡ true → Shape w
+unfolding isData
+data-shape w e =
+    ⊎-elim (λ g. inl (eqb-true _ _ g))
+    (λ h.
+    let gs = both (eqb (bits w 27 25) 0) register h in
+    inr (
+      eqb-true _ _ (gs .0),
+      ⊎-elim (λ b4. inl (eqb-true _ _ b4))
+          (λ k. let bs = both (eqb (bits w 7 7) 0) (eqb (bits w 4 4) 1) k in inr (eqb-true _ _ (bs .0), eqb-true _ _ (bs .1)))
+          (either (eqb (bits w 4 4) 0) (eqb (bits w 7 7) 0 && eqb (bits w 4 4) 1) (gs .1)),
+    ))
+    (either (eqb (bits w 27 25) 1) (eqb (bits w 27 25) 0 && register) (both (dataShape w) compares (both (dataShape w && compares) moves e .0) .0))
+  where
+    register : Bool
+    register = eqb (bits w 4 4) 0 || (eqb (bits w 7 7) 0 && eqb (bits w 4 4) 1)
+
+    compares : Bool
+    compares = not (isCompare (operationOf w)) || (eqb (sOf w) 1 && eqb (rdOf w) 0)
+
+    moves : Bool
+    moves = not (isMove (operationOf w)) || eqb (rnOf w) 0
+
+-- a compare sets the flags
+pub data-compare : (w : ℕ) → isData w ≡ true → isCompare (operationOf w) ≡ true → sOf w ≡ 1
+unfolding isData
+data-compare w e c =
+    eqb-true _ _
+    (both (eqb (sOf w) 1) (eqb (rdOf w) 0)
+    (implies (isCompare (operationOf w)) (eqb (sOf w) 1 && eqb (rdOf w) 0) (both (dataShape w) (not (isCompare (operationOf w)) || (eqb (sOf w) 1 && eqb (rdOf w) 0)) (both _ (not (isMove (operationOf w)) || eqb (rnOf w) 0) e .0) .1) c) .0)
+
+pub half-move-says : (w : ℕ) → isHalfMove w ≡ true → (bits w 27 20 ≡ 0x30) ⊎ (bits w 27 20 ≡ 0x34)
+unfolding isHalfMove
+half-move-says w e = one-of (bits w 27 20) 0x30 0x34 e
+
+pub multiply-says : (w : ℕ) → isMultiply w ≡ true → ((bits w 27 21 ≡ 0) ⊎ (bits w 27 21 ≡ 1)) × (bits w 7 4 ≡ 9)
+unfolding isMultiply ⊎-map
+multiply-says w e =
+    let p = both ((eqb (bits w 27 21) 0 && eqb (rdOf w) 0) || eqb (bits w 27 21) 1) (eqb (bits w 7 4) 9) e in (
+      ⊎-map (λ h. eqb-true _ _ (both (eqb (bits w 27 21) 0) (eqb (rdOf w) 0) h .0)) (eqb-true (bits w 27 21) 1) (either (eqb (bits w 27 21) 0 && eqb (rdOf w) 0) (eqb (bits w 27 21) 1) (p .0)),
+      eqb-true _ _ (p .1),
+    )
+
+pub any-access-says : (w : ℕ) → isAnyAccess w ≡ true → bits w 27 25 ≡ 2
+unfolding isAnyAccess
+any-access-says w e =
+    eqb-true _ _
+    (both (eqb (bits w 27 25) 2) (not (eqb (bits w 24 24) 0 && eqb (bits w 21 21) 1))
+    (both (eqb (bits w 27 25) 2 && not (eqb (bits w 24 24) 0 && eqb (bits w 21 21) 1)) (not ((eqb (bits w 24 24) 0 || eqb (bits w 21 21) 1) && eqb (rnOf w) (rdOf w))) e .0) .0)
+
+pub access-says : (w : ℕ) → isAccess w ≡ true → (bits w 27 25 ≡ 2) × (not (isLiteralLoad w) ≡ true)
+unfolding isAccess
+access-says w e = let p = both (isAnyAccess w) (not (isLiteralLoad w)) e in (any-access-says w (p .0), p .1)
+
+-- group, Rn, P, B, W, L
+pub record Literally (w : ℕ) : Type 0 where
+  pub group : bits w 27 25 ≡ 2
+  pub rn : bits w 19 16 ≡ 15
+  pub p : bits w 24 24 ≡ 1
+  pub b : bits w 22 22 ≡ 0
+  pub w′ : bits w 21 21 ≡ 0
+  pub l : bits w 20 20 ≡ 1
+
+pub literal-load-says : (w : ℕ) → isLiteralLoad w ≡ true → Literally w
+unfolding isLiteralLoad
+literal-load-says w e =
+    let a = isAnyAccess w in
+    let n = eqb (rnOf w) 15 in
+    let p = eqb (bits w 24 24) 1 in
+    let b = eqb (bits w 22 22) 0 in
+    let v = eqb (bits w 21 21) 0 in
+    let l = eqb (bits w 20 20) 1 in
+    let e1 = both (a && n && p && b && v) l e in
+    let e2 = both (a && n && p && b) v (e1 .0) in
+    let e3 = both (a && n && p) b (e2 .0) in
+    let e4 = both (a && n) p (e3 .0) in
+    let e5 = both a n (e4 .0) in
+    record {
+      group = any-access-says w (e5 .0);
+      rn = eqb-true _ _ (e5 .1);
+      p = eqb-true _ _ (e4 .1);
+      b = eqb-true _ _ (e3 .1);
+      w′ = eqb-true _ _ (e2 .1);
+      l = eqb-true _ _ (e1 .1);
+    }
+
+pub register-branch-says : (w : ℕ) → isRegisterBranch w ≡ true → (bits w 27 4 ≡ 0x12_FFF1) ⊎ (bits w 27 4 ≡ 0x12_FFF3)
+unfolding isRegisterBranch
+register-branch-says w e = one-of (bits w 27 4) 0x12_FFF1 0x12_FFF3 e

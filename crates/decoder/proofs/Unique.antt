@@ -1,0 +1,120 @@
+-- Each public call's promise allows one answer: two answers to the same arguments are equal. `Unique` is stated over the promise
+-- itself, as the check reads it off the source.
+use mathlib.Core.Path.{_≡_, _∙_, sym}
+use mathlib.Core.List.{List}
+use denote.Triple.Clauses.{AtExit}
+use borrow.Fn.Kinds.{PK, RK, Dens, Out, resT, endedOf}
+use Rattle.decoder.proofs.word.read.Kinds as read-kinds
+use Rattle.decoder.proofs.word.read.Reads as read
+use Rattle.decoder.proofs.bundle.readings.Kinds as readings-kinds
+use Rattle.decoder.proofs.bundle.readings.Reads as readings
+use Rattle.decoder.proofs.bundle.roles.Kinds as roles-kinds
+use Rattle.decoder.proofs.bundle.roles.Reads as roles
+use Rattle.decoder.proofs.place.target.Kinds as target-kinds
+use Rattle.decoder.proofs.place.target.Reads as target
+use Rattle.decoder.proofs.place.literal.Kinds as literal-kinds
+use Rattle.decoder.proofs.place.literal.Reads as literal
+use Rattle.decoder.proofs.immediate.value.Kinds as value-kinds
+use Rattle.decoder.proofs.immediate.value.Reads as value
+use Rattle.decoder.proofs.mask.is_data_mask.Kinds as is-data-mask-kinds
+use Rattle.decoder.proofs.mask.is_data_mask.Reads as is-data-mask
+use Rattle.decoder.proofs.mask.is_branch_mask.Kinds as is-branch-mask-kinds
+use Rattle.decoder.proofs.mask.is_branch_mask.Reads as is-branch-mask
+use Rattle.decoder.proofs.mask.is_test.Kinds as is-test-kinds
+use Rattle.decoder.proofs.mask.is_test.Reads as is-test
+use Rattle.decoder.proofs.pair.mask_guards.Kinds as mask-guards-kinds
+use Rattle.decoder.proofs.pair.mask_guards.Reads as mask-guards
+use Rattle.decoder.proofs.pair.test_guards.Kinds as test-guards-kinds
+use Rattle.decoder.proofs.pair.test_guards.Reads as test-guards
+use Rattle.decoder.proofs.pair.branch_guards.Kinds as branch-guards-kinds
+use Rattle.decoder.proofs.pair.branch_guards.Reads as branch-guards
+use Rattle.decoder.proofs.pair.closes.Kinds as closes-kinds
+use Rattle.decoder.proofs.pair.closes.Reads as closes
+use Rattle.decoder.proofs.pair.is_pair.Kinds as is-pair-kinds
+use Rattle.decoder.proofs.pair.is_pair.Reads as is-pair
+use Rattle.decoder.proofs.question.names.Kinds as names-kinds
+use Rattle.decoder.proofs.question.names.Reads as names
+use Rattle.decoder.proofs.question.base.Kinds as base-kinds
+use Rattle.decoder.proofs.question.base.Reads as base
+use Rattle.decoder.proofs.question.branch_register.Kinds as branch-register-kinds
+use Rattle.decoder.proofs.question.branch_register.Reads as branch-register
+use Rattle.decoder.proofs.question.writes_sp.Kinds as writes-sp-kinds
+use Rattle.decoder.proofs.question.writes_sp.Reads as writes-sp
+use Rattle.decoder.proofs.question.keeps_flags.Kinds as keeps-flags-kinds
+use Rattle.decoder.proofs.question.keeps_flags.Reads as keeps-flags
+use Rattle.decoder.proofs.question.takes_sp.Kinds as takes-sp-kinds
+use Rattle.decoder.proofs.question.takes_sp.Reads as takes-sp
+use Rattle.decoder.proofs.question.is_call.Kinds as is-call-kinds
+use Rattle.decoder.proofs.question.is_call.Reads as is-call
+use Rattle.decoder.proofs.question.is_unlisted.Kinds as is-unlisted-kinds
+use Rattle.decoder.proofs.question.is_unlisted.Reads as is-unlisted
+
+abbrev pub Unique : (ps : List (PK 0)) (r : RK 0) → Out 0 ps r → Type 0
+Unique ps r promise =
+    (a : Dens tt ps) (u v : resT r tt .Denot) (x y : AtExit (endedOf 0 ps r) tt) → promise tt a u x → promise tt a v y → u ≡ v
+
+pub read-unique : Unique read-kinds.ps read-kinds.r read.Post
+read-unique a u v x y p q = p ∙ sym q
+
+pub readings-unique : Unique readings-kinds.ps readings-kinds.r readings.Post
+readings-unique a u v x y p q = p ∙ sym q
+
+pub roles-unique : Unique roles-kinds.ps roles-kinds.r roles.Post
+roles-unique a u v x y p q = p ∙ sym q
+
+pub target-unique : Unique target-kinds.ps target-kinds.r target.Post
+target-unique a u v x y p q = p ∙ sym q
+
+pub literal-unique : Unique literal-kinds.ps literal-kinds.r literal.Post
+literal-unique a u v x y p q = p ∙ sym q
+
+pub value-unique : Unique value-kinds.ps value-kinds.r value.Post
+value-unique a u v x y p q = p ∙ sym q
+
+pub is-data-mask-unique : Unique is-data-mask-kinds.ps is-data-mask-kinds.r is-data-mask.Post
+is-data-mask-unique a u v x y p q = p ∙ sym q
+
+pub is-branch-mask-unique : Unique is-branch-mask-kinds.ps is-branch-mask-kinds.r is-branch-mask.Post
+is-branch-mask-unique a u v x y p q = p ∙ sym q
+
+pub is-test-unique : Unique is-test-kinds.ps is-test-kinds.r is-test.Post
+is-test-unique a u v x y p q = p ∙ sym q
+
+pub mask-guards-unique : Unique mask-guards-kinds.ps mask-guards-kinds.r mask-guards.Post
+mask-guards-unique a u v x y p q = p ∙ sym q
+
+pub test-guards-unique : Unique test-guards-kinds.ps test-guards-kinds.r test-guards.Post
+test-guards-unique a u v x y p q = p ∙ sym q
+
+pub branch-guards-unique : Unique branch-guards-kinds.ps branch-guards-kinds.r branch-guards.Post
+branch-guards-unique a u v x y p q = p ∙ sym q
+
+pub closes-unique : Unique closes-kinds.ps closes-kinds.r closes.Post
+closes-unique a u v x y p q = p ∙ sym q
+
+pub is-pair-unique : Unique is-pair-kinds.ps is-pair-kinds.r is-pair.Post
+is-pair-unique a u v x y p q = p ∙ sym q
+
+pub names-unique : Unique names-kinds.ps names-kinds.r names.Post
+names-unique a u v x y p q = p ∙ sym q
+
+pub base-unique : Unique base-kinds.ps base-kinds.r base.Post
+base-unique a u v x y p q = p ∙ sym q
+
+pub branch-register-unique : Unique branch-register-kinds.ps branch-register-kinds.r branch-register.Post
+branch-register-unique a u v x y p q = p ∙ sym q
+
+pub writes-sp-unique : Unique writes-sp-kinds.ps writes-sp-kinds.r writes-sp.Post
+writes-sp-unique a u v x y p q = p ∙ sym q
+
+pub keeps-flags-unique : Unique keeps-flags-kinds.ps keeps-flags-kinds.r keeps-flags.Post
+keeps-flags-unique a u v x y p q = p ∙ sym q
+
+pub takes-sp-unique : Unique takes-sp-kinds.ps takes-sp-kinds.r takes-sp.Post
+takes-sp-unique a u v x y p q = p ∙ sym q
+
+pub is-call-unique : Unique is-call-kinds.ps is-call-kinds.r is-call.Post
+is-call-unique a u v x y p q = p ∙ sym q
+
+pub is-unlisted-unique : Unique is-unlisted-kinds.ps is-unlisted-kinds.r is-unlisted.Post
+is-unlisted-unique a u v x y p q = p ∙ sym q

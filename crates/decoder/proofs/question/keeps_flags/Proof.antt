@@ -1,0 +1,23 @@
+-- `question::keeps_flags` meets its contract.
+use borrow.Author.Needs.{needs}
+use mathlib.Core.Path.{sym, ap}
+use Rattle.decoder.specs.Question.{keepsFlags}
+use Rattle.decoder.proofs.Others.{other-data}
+use mathlib.Core.Bool.{false}
+use lib.Dec.{eqb}
+use Rattle.decoder.proofs.question.keeps_flags.Statement.{statement}
+use Rattle.decoder.proofs.question.keeps_flags.Tie as tie
+
+enum-known-kind : tie.Need-enum-known-kind
+enum-known-kind c = search needs
+
+returns : tie.Need-returns
+unfolding keepsFlags
+returns c = other-data (λ f. eqb (f .s) 0) false (c .before .args .kind) (c .match .keys2)
+
+returns-2 : tie.Need-returns-2
+unfolding keepsFlags
+returns-2 c = sym (ap keepsFlags (c .before .before .kind .given .1))
+
+pub keeps-flags-spec : {M : Type 1} → statement M
+keeps-flags-spec = tie.close (tie.spec enum-known-kind returns returns-2)

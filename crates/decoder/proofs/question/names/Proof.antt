@@ -1,0 +1,93 @@
+-- `question::names` meets its contract: each arm is told its kind, and `others` has the rest.
+use borrow.Author.Needs.{needs}
+use mathlib.Core.Path.{_≡_, _∙_, refl, sym, ap}
+use mathlib.Core.Bool.{Bool, false, not, _&&_, _||_}
+use lib.Dec.{eqb}
+use mathlib.Core.List.{[], _∷_}
+use Rattle.decoder.specs.Question.{operandNames, names}
+use Rattle.decoder.proofs.Others.{others}
+use Rattle.decoder.proofs.question.names.Statement.{statement}
+use Rattle.decoder.proofs.question.names.Tie as tie
+
+enum-known-kind : tie.Need-enum-known-kind
+enum-known-kind c = search needs
+
+is-compare-requires : tie.Need-is-compare-requires
+is-compare-requires c κs = search needs
+
+is-move-requires : tie.Need-is-move-requires
+is-move-requires c κs = search needs
+
+operand-names-requires : tie.Need-operand-names-requires
+operand-names-requires c κs = search needs
+
+enum-known-kind-2 : tie.Need-enum-known-kind-2
+enum-known-kind-2 c = search needs
+
+enum-known-kind-3 : tie.Need-enum-known-kind-3
+enum-known-kind-3 c = search needs
+
+multiply-names-requires : tie.Need-multiply-names-requires
+multiply-names-requires c κs = search needs
+
+enum-known-kind-4 : tie.Need-enum-known-kind-4
+enum-known-kind-4 c = search needs
+
+enum-known-kind-5 : tie.Need-enum-known-kind-5
+enum-known-kind-5 c = search needs
+
+enum-known-kind-6 : tie.Need-enum-known-kind-6
+enum-known-kind-6 c = search needs
+
+returns : tie.Need-returns
+unfolding names
+returns c =
+    let at = c .before .before .before .before .before .before in
+    simp (c .before .before .before .before .is-compare .ensures, c .before .before .is-move .ensures, c .operand-names .ensures)
+    (sym (ap (names (at .before .before .args .r)) (at .kind .given .1)))
+
+returns-2 : tie.Need-returns-2
+unfolding names
+returns-2 c = sym (ap (names (c .before .before .before .args .r)) (c .before .kind2 .given .1))
+
+returns-3 : tie.Need-returns-3
+unfolding names
+returns-3 c = c .multiply-names .ensures ∙ sym (ap (names (c .before .before .before .before .args .r)) (c .before .before .kind3 .given .1))
+
+returns-4 : tie.Need-returns-4
+unfolding names
+returns-4 c = sym (ap (names (c .before .before .before .before .before .args .r)) (c .before .before .before .kind4 .given .1))
+
+returns-5 : tie.Need-returns-5
+unfolding names
+returns-5 c = sym (ap (names (c .before .before .before .args .r)) (c .before .kind5 .given .1))
+
+returns-6 : tie.Need-returns-6
+unfolding names
+returns-6 c = sym (ap (names (c .before .before .before .args .r)) (c .before .kind6 .given .1))
+
+returns-7 : tie.Need-returns-7
+unfolding names
+returns-7 c = others (0 ∷ 3 ∷ 7 ∷ 9 ∷ 10 ∷ []) (λ k. false ≡ names (c .before .args .r) k) refl tt tt refl tt tt tt (λ _ _. refl) tt refl (λ _. refl) (c .before .args .kind) (c .match .keys7)
+
+pub names-spec : {M : Type 1} → statement M
+names-spec =
+    tie.close
+    (tie.spec
+    enum-known-kind
+    is-compare-requires
+    is-move-requires
+    operand-names-requires
+    enum-known-kind-2
+    enum-known-kind-3
+    multiply-names-requires
+    enum-known-kind-4
+    enum-known-kind-5
+    enum-known-kind-6
+    returns
+    returns-2
+    returns-3
+    returns-4
+    returns-5
+    returns-6
+    returns-7)

@@ -1,0 +1,74 @@
+-- The four readings of a bundle, and its four roles.
+use Prim.Native.Nat.{ℕ}
+use mathlib.Core.Bool.{Bool, cond}
+use mathlib.Core.List.{List, [], _∷_}
+use lib.Dec.{eqb}
+use lib.ListN.{getD}
+use Rattle.decoder.specs.Bits.{bits}
+use Rattle.decoder.specs.Word.{conditionOf, readingOf}
+use Rattle.decoder.specs.Pair.{isPair}
+use Rattle.decoder.specs.declared.reading.Kind.{Kind}
+use Rattle.decoder.specs.declared.reading.Kind.the-variants.{Unlisted, Data, HalfMove, Nop, Multiply, Access, LiteralLoad, Branch, RegisterBranch, Head, Literal}
+use Rattle.decoder.specs.declared.reading.Reading.{Reading}
+
+-- Literal head: 0xE125BE70 in slot 0
+unfoldable pub headWord : ℕ
+headWord = 0xE125_BE70
+
+unfoldable pub headReading : ℕ → Reading
+headReading w = record { condition = conditionOf w; kind = Head }
+
+-- Slots 1 to 3 are then data: any value
+unfoldable pub literalReading : ℕ → Reading
+literalReading w = record { condition = conditionOf w; kind = Literal (bits w 27 0) }
+
+-- the readings of four words. In slots 1 to 3 of another bundle the head's word is in no class, as `readingOf` has it
+unfoldable pub readingsOf : List ℕ → List Reading
+readingsOf ws =
+    cond (eqb (getD ws 0 0) headWord)
+    (headReading (getD ws 0 0) ∷ literalReading (getD ws 1 0) ∷ literalReading (getD ws 2 0) ∷ literalReading (getD ws 3 0) ∷ [])
+    (readingOf (getD ws 0 0) ∷ readingOf (getD ws 1 0) ∷ readingOf (getD ws 2 0) ∷ readingOf (getD ws 3 0) ∷ [])
+
+-- Roles: 0 plain, 1 inner, 2 data, 3 literal head
+abbrev pub plain : ℕ
+plain = 0
+
+abbrev pub inner : ℕ
+inner = 1
+
+abbrev pub data′ : ℕ
+data′ = 2
+
+abbrev pub head : ℕ
+head = 3
+
+-- a word's role by itself: a head, data, or else plain, in a class or not
+unfoldable pub roleAlone : Kind → ℕ
+roleAlone Head = head
+roleAlone (Literal low) = data′
+roleAlone Unlisted = plain
+roleAlone (Data f) = plain
+roleAlone (HalfMove top rd number) = plain
+roleAlone Nop = plain
+roleAlone (Multiply f) = plain
+roleAlone (Access f) = plain
+roleAlone (LiteralLoad u rt distance) = plain
+roleAlone (Branch call offset) = plain
+roleAlone (RegisterBranch call rm) = plain
+
+-- The second word of a pair is inner, whatever the switch says
+unfoldable pub roleAfter : Reading → Reading → ℕ
+roleAfter first second = cond (isPair first second) inner (roleAlone (second .kind))
+
+-- what stands past the end of a list of readings, which nobody reads
+abbrev pub blank : Reading
+blank = record { condition = 0; kind = Unlisted }
+
+-- Pairs lie in adjacent slots of one bundle
+unfoldable pub rolesOf : List Reading → List ℕ
+rolesOf rs =
+    roleAlone (getD rs 0 blank .kind)
+    ∷ roleAfter (getD rs 0 blank) (getD rs 1 blank)
+    ∷ roleAfter (getD rs 1 blank) (getD rs 2 blank)
+    ∷ roleAfter (getD rs 2 blank) (getD rs 3 blank)
+    ∷ []

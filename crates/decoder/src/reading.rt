@@ -1,0 +1,67 @@
+// A reading: a condition and one kind with its own fields. It keeps every field that decides what the
+// word does when it runs, each as the number that stands in the word.
+
+// What a data word works on beside Rn.
+pub enum Operand {
+    // Bits 7..0, rotated right by twice bits 11..8.
+    Immediate { rotation: u32, byte: u32 },
+    // Rm, shifted by bits 11..7; bits 6..5 say how.
+    Shifted { shift: u32, amount: u32, rm: u32 },
+    // Rm, shifted by Rs.
+    ShiftedByRs { shift: u32, rs: u32, rm: u32 },
+}
+
+pub struct DataFields {
+    pub operation: u32,
+    pub s: u32,
+    pub rn: u32,
+    pub rd: u32,
+    pub operand: Operand,
+}
+
+pub struct MultiplyFields {
+    pub accumulate: u32,
+    pub s: u32,
+    // Bits 19..16, the register written.
+    pub target: u32,
+    // Bits 15..12, the register added where the word accumulates.
+    pub added: u32,
+    pub rs: u32,
+    pub rm: u32,
+}
+
+pub struct AccessFields {
+    pub p: u32,
+    pub u: u32,
+    pub b: u32,
+    pub w: u32,
+    pub l: u32,
+    pub rn: u32,
+    pub rt: u32,
+    pub distance: u32,
+}
+
+pub enum Kind {
+    // The word is in no class.
+    Unlisted,
+    Data(DataFields),
+    // top is 1 for movt and 0 for movw; number is all sixteen bits.
+    HalfMove { top: u32, rd: u32, number: u32 },
+    Nop,
+    Multiply(MultiplyFields),
+    // An access that is no literal load.
+    Access(AccessFields),
+    LiteralLoad { u: u32, rt: u32, distance: u32 },
+    // offset is bits 23..0, not yet signed.
+    Branch { call: u32, offset: u32 },
+    RegisterBranch { call: u32, rm: u32 },
+    // The literal head, in slot 0.
+    Head,
+    // A word after a literal head: any value. low is bits 27..0.
+    Literal { low: u32 },
+}
+
+pub struct Reading {
+    pub condition: u32,
+    pub kind: Kind,
+}
