@@ -8,11 +8,11 @@ use mathlib.Core.Logic.{_↔_}
 use mathlib.Core.Bool.{Bool, true, false, cond}
 use mathlib.Core.List.{List, [], _∷_}
 use lib.ListN.{getD}
-use lib.Dec.{eqb}
+use lib.Dec.{eqb, lit<}
 use Rattle.decoder.specs.Mask.{isMask, isDataMask, isBranchMask, isTest}
 use Rattle.decoder.specs.Question.{baseOf, branchRegister, writesSp, keepsFlags}
 use Rattle.decoder.specs.Pair.{canBeGuarded, maskGuards, testGuards, branchGuards, closes, isPair}
-use Rattle.decoder.specs.Bundle.{headWord, headReading, literalReading, readingsOf, plain, inner, data′, head, roleAlone, roleAfter, blank, rolesOf}
+use Rattle.decoder.specs.Bundle.{headWord, headReading, literalReading, readingsOf, slotReading, plain, inner, data′, head, roleAlone, roleAfter, blank, rolesOf}
 use Rattle.decoder.specs.declared.reading.Reading.{Reading}
 use Rattle.decoder.specs.declared.reading.Kind.{Kind}
 use Rattle.decoder.specs.declared.reading.Kind.the-variants.{Unlisted, Data, HalfMove, Nop, Multiply, Access, LiteralLoad, Branch, RegisterBranch, Head, Literal}
@@ -52,3 +52,39 @@ inner-exactly rs (suc (suc (suc n))) h = absurd (not-suc-le-zero (le-of-suc-le-s
 pub head-makes-data : (a b c : ℕ) → rolesOf (readingsOf (headWord ∷ a ∷ b ∷ c ∷ [])) ≡ head ∷ data′ ∷ data′ ∷ data′ ∷ []
 unfolding rolesOf readingsOf headWord headReading literalReading roleAlone roleAfter isPair maskGuards testGuards branchGuards closes canBeGuarded baseOf branchRegister writesSp
 head-makes-data a b c = refl
+
+-- a slot's own reading is the bundle's
+pub slot-of-bundle : (ws : List ℕ) (slot : ℕ) → slot < 4 → getD (readingsOf ws) slot blank ≡ slotReading (getD ws 0 0) (getD ws slot 0) slot
+unfolding readingsOf slotReading
+slot-of-bundle ws zero h = by-test (eqb (getD ws 0 0) headWord) (λ e. simp e) (λ e. simp e)
+slot-of-bundle ws (suc zero) h = by-test (eqb (getD ws 0 0) headWord) (λ e. simp e) (λ e. simp e)
+slot-of-bundle ws (suc (suc zero)) h = by-test (eqb (getD ws 0 0) headWord) (λ e. simp e) (λ e. simp e)
+slot-of-bundle ws (suc (suc (suc zero))) h = by-test (eqb (getD ws 0 0) headWord) (λ e. simp e) (λ e. simp e)
+slot-of-bundle ws (suc (suc (suc (suc n)))) h = absurd (not-suc-le-zero (le-of-suc-le-suc (le-of-suc-le-suc (le-of-suc-le-suc (le-of-suc-le-suc h)))))
+
+-- a role is below 4
+alone-small : (k : Kind) → roleAlone k < 4
+unfolding roleAlone
+alone-small Unlisted = omega arith
+alone-small (Data f) = omega arith
+alone-small (HalfMove a b c) = omega arith
+alone-small Nop = omega arith
+alone-small (Multiply f) = omega arith
+alone-small (Access f) = omega arith
+alone-small (LiteralLoad a b c) = omega arith
+alone-small (Branch a b) = omega arith
+alone-small (RegisterBranch a b) = omega arith
+alone-small Head = omega arith
+alone-small (Literal a) = omega arith
+
+after-small : (first second : Reading) → roleAfter first second < 4
+unfolding roleAfter
+after-small first second = by-test (isPair first second) (λ p. simp p (lit< tt)) (λ p. simp p (alone-small (second .kind)))
+
+pub role-small : (rs : List Reading) (slot : ℕ) → getD (rolesOf rs) slot 0 < 4
+unfolding rolesOf
+role-small rs zero = alone-small (getD rs 0 blank .kind)
+role-small rs (suc zero) = after-small (getD rs 0 blank) (getD rs 1 blank)
+role-small rs (suc (suc zero)) = after-small (getD rs 1 blank) (getD rs 2 blank)
+role-small rs (suc (suc (suc zero))) = after-small (getD rs 2 blank) (getD rs 3 blank)
+role-small rs (suc (suc (suc (suc n)))) = lit< tt

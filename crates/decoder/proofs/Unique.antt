@@ -8,6 +8,8 @@ use Rattle.decoder.proofs.word.read.Kinds as read-kinds
 use Rattle.decoder.proofs.word.read.Reads as read
 use Rattle.decoder.proofs.bundle.readings.Kinds as readings-kinds
 use Rattle.decoder.proofs.bundle.readings.Reads as readings
+use Rattle.decoder.proofs.bundle.reading.Kinds as reading-kinds
+use Rattle.decoder.proofs.bundle.reading.Reads as reading
 use Rattle.decoder.proofs.bundle.roles.Kinds as roles-kinds
 use Rattle.decoder.proofs.bundle.roles.Reads as roles
 use Rattle.decoder.proofs.place.target.Kinds as target-kinds
@@ -58,6 +60,9 @@ read-unique a u v x y p q = p ∙ sym q
 
 pub readings-unique : Unique readings-kinds.ps readings-kinds.r readings.Post
 readings-unique a u v x y p q = p ∙ sym q
+
+pub reading-unique : Unique reading-kinds.ps reading-kinds.r reading.Post
+reading-unique a u v x y p q = p ∙ sym q
 
 pub roles-unique : Unique roles-kinds.ps roles-kinds.r roles.Post
 roles-unique a u v x y p q = p ∙ sym q

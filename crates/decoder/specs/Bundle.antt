@@ -29,6 +29,11 @@ readingsOf ws =
     (headReading (getD ws 0 0) ∷ literalReading (getD ws 1 0) ∷ literalReading (getD ws 2 0) ∷ literalReading (getD ws 3 0) ∷ [])
     (readingOf (getD ws 0 0) ∷ readingOf (getD ws 1 0) ∷ readingOf (getD ws 2 0) ∷ readingOf (getD ws 3 0) ∷ [])
 
+-- the reading of one slot: it takes the bundle's first word beside its own
+unfoldable pub slotReading : ℕ → ℕ → ℕ → Reading
+slotReading first word slot =
+    cond (eqb first headWord) (cond (eqb slot 0) (headReading word) (literalReading word)) (readingOf word)
+
 -- Roles: 0 plain, 1 inner, 2 data, 3 literal head
 abbrev pub plain : ℕ
 plain = 0

@@ -4,7 +4,7 @@ use crate::reading::Kind;
 use crate::reading::Reading;
 use crate::word::read;
 ghost use mathlib.Core.Path.{_≡_};
-ghost use Rattle.decoder.specs.Bundle.{headReading, literalReading, readingsOf, roleAlone, roleAfter, rolesOf};
+ghost use Rattle.decoder.specs.Bundle.{headReading, literalReading, readingsOf, slotReading, roleAlone, roleAfter, rolesOf};
 
 // The literal head's word.
 const HEAD_WORD: u32 = 0xE125_BE70;
@@ -55,6 +55,19 @@ pub fn readings(words: [u32; 4]) -> [Reading; 4]
         read(words[2]),
         read(words[3]),
     ]
+}
+
+// The reading of one slot, from the bundle's first word and its own.
+pub fn reading(first: u32, word: u32, slot: usize) -> Reading
+    ensures { λ r. ⌜ r ≡ slotReading first word slot ⌝ }
+{
+    if first == HEAD_WORD {
+        if slot == 0 {
+            return read_head(word);
+        }
+        return read_literal(word);
+    }
+    read(word)
 }
 
 fn role_alone(kind: Kind) -> u32

@@ -1,0 +1,166 @@
+-- The check, on plain values: each of its answers is the one that the definition gives.
+use Prim.Native.Nat.{ℕ, suc, _+_, _-_, _*_, _/_, _%_, _≤_, _<_}
+use native.Mathlib.Nat.{zero-add, sub-zero, mul-zero, add-comm}
+use native.Mathlib.Omega.{arith}
+use mathlib.Core.Path.{_≡_, _∙_, refl, sym, ap, ap₂, subst}
+use mathlib.Core.Bool.{Bool, true, false, not, _&&_, cond}
+use mathlib.Core.List.{List}
+use lib.Dec.{eqb, ltb, leb}
+use lib.ListN.{length, getD}
+use borrow.Author.Tests.{eq-eqb, ne-eqb, lt-ltb, le-ltb, le-leb, ltb-true}
+use Rattle.decoder.specs.declared.place.Place.{Place}
+use Rattle.decoder.proofs.Bools.{by-test}
+use Rattle.rules.specs.declared.layout.Layout.{Layout}
+use Rattle.rules.specs.declared.outcome.Reason.{Reason}
+use Rattle.rules.specs.declared.outcome.Outcome.{Outcome}
+use Rattle.rules.specs.declared.outcome.Reason.the-variants.{Layout as LayoutBroken, CodeLength, LedgerLength}
+use Rattle.rules.specs.declared.outcome.Outcome.the-variants.{Accepted, Refused}
+use Rattle.rules.specs.Layout.{layoutHolds, lengthHolds, addressOf}
+use Rattle.rules.specs.Outcome.{Verdict, accepted, refused, refusedAt, reasonVerdict, verdictOf}
+use Rattle.rules.specs.Rule.{landingOf, faultOf}
+use Rattle.rules.proofs.Says.{layout-ends, length-says, fault-range}
+use Rattle.checker.specs.Lists.{firstFrom, First, sum}
+use Rattle.checker.specs.Region.{roleAt, beforeAt, readingAt, nextAt}
+use Rattle.checker.specs.Standing.{targetAt, landingAt, landings, targetRole, faultAt, roleFrom, standingFault, Stands}
+use Rattle.checker.specs.Ledger.{Cleared, RolesWritten, Added}
+use Rattle.checker.specs.Check.{wordsOf, codeFault, wordsVerdict, checkVerdict, entryOf, ledgerOf, ledgerAfter, Checked}
+use Rattle.checker.proofs.First.{first-same, first-value, first-end}
+use Rattle.checker.proofs.Lists.{sum-most, list-is}
+use Rattle.checker.proofs.Ledgers.{split, role-below}
+
+-- ---- which rule a word breaks
+
+-- the roles of a region that is all at hand are the code's
+whole-roles : (ledger code : List ℕ) (j : ℕ) → j < length code / 4 → roleFrom ledger code 0 j ≡ roleAt code j
+unfolding roleFrom
+whole-roles ledger code j h =
+    simp (le-leb 0 j (omega arith), lt-ltb j (0 + length code / 4) (omega arith)) (ap (roleAt code) (sub-zero j))
+
+pub target-role-same : (l : Layout) (n : ℕ) (f g : ℕ → ℕ) → ((j : ℕ) → j < n → f j ≡ g j) → (p : Place) → targetRole l n f p ≡ targetRole l n g p
+unfolding targetRole
+target-role-same l n f g h p =
+    by-test (ltb (landingOf l n p) n) (λ e. simp e (h (landingOf l n p) (ltb-true _ _ e))) (λ e. simp e)
+
+-- a word's fault goes by the roles of the code's words alone
+pub fault-same : (l : Layout) (n : ℕ) (f g : ℕ → ℕ) (bytes : List ℕ) (first k : ℕ) → ((j : ℕ) → j < n → f j ≡ g j) → faultAt l n f bytes first k ≡ faultAt l n g bytes first k
+unfolding faultAt
+fault-same l n f g bytes first k h =
+    ap (faultOf l n (beforeAt bytes k) (readingAt bytes k) (nextAt bytes k) (k % 4) (addressOf l (first + k))) (target-role-same l n f g h (targetAt l n bytes first k))
+
+same-fault : (l : Layout) (ledger code : List ℕ) → length ledger ≡ wordsOf code → (k : ℕ) → standingFault l ledger code 0 k ≡ codeFault l code k
+unfolding standingFault codeFault
+same-fault l ledger code e k =
+    ap (λ (n : ℕ). faultAt l n (roleFrom ledger code 0) code 0 k) e
+    ∙ fault-same l (wordsOf code) (roleFrom ledger code 0) (roleAt code) code 0 k (whole-roles ledger code)
+
+-- ---- the verdict
+
+module _ (l : Layout) (code before : List ℕ) where
+  pub checked-1 : layoutHolds l (length code) ≡ false → Checked l code before before (Refused LayoutBroken)
+  unfolding checkVerdict verdictOf reasonVerdict ledgerAfter
+  checked-1 e = record { verdict = sym (simp e); ledger = sym (simp e) }
+
+  module _ (e1 : layoutHolds l (length code) ≡ true) where
+    pub checked-2 : lengthHolds (length code) ≡ false → Checked l code before before (Refused CodeLength)
+    unfolding checkVerdict verdictOf reasonVerdict ledgerAfter
+    checked-2 e = record { verdict = sym (simp (e1, e)); ledger = sym (simp (e1, e)) }
+
+    module _ (e2 : lengthHolds (length code) ≡ true) where
+      pub checked-3 : (length before ≡ wordsOf code → ⊥) → Checked l code before before (Refused LedgerLength)
+      unfolding checkVerdict verdictOf reasonVerdict ledgerAfter
+      checked-3 n = let e = ne-eqb _ _ n in record { verdict = sym (simp (e1, e2, e)); ledger = sym (simp (e1, e2, e)) }
+
+      module _ (e3 : length before ≡ wordsOf code) where
+        pub stands : Stands l (length before) code 0
+        stands =
+            let end = layout-ends l (length code) e1 in
+            let right = length-says (length code) e2 in
+            record { whole = right .whole; inside = omega arith; below = bytes (right .whole) end }
+          where
+            bytes : length code % 16 ≡ 0 → l .«code_start» + length code ≤ 1_073_741_824 → l .«code_start» + 4 * length before ≤ 1_073_741_824
+            bytes w end = omega arith
+
+        -- after 1, 2 and 3 the words decide
+        by-words : checkVerdict l code (length before) ≡ wordsVerdict l code
+        unfolding checkVerdict
+        by-words = simp (e1, e2, eq-eqb _ _ e3)
+
+        module _ (at number : ℕ) (found : First (standingFault l before code 0) 0 (length code / 4) at number) where
+          first-is : at ≡ firstFrom (codeFault l code) 0 (wordsOf code)
+          first-is = found .place ∙ first-same (standingFault l before code 0) (codeFault l code) 0 (wordsOf code) (λ j a b. same-fault l before code e3 j)
+
+          module _ (n : number ≡ 0 → ⊥) where
+            value : (at < 0 + length code / 4) × (number ≡ standingFault l before code 0 at)
+            value = first-value (standingFault l before code 0) 0 (length code / 4) at number found n
+
+            pub found-inside : at < wordsOf code
+            found-inside = let v = value .0 in omega arith
+
+            pub found-number : number ≡ codeFault l code at
+            found-number = value .1 ∙ same-fault l before code e3 at
+
+            pub found-range : (4 ≤ number) × (number ≤ 11)
+            unfolding codeFault faultAt
+            found-range =
+                let e = found-number in
+                subst (λ (x : ℕ). (4 ≤ x) × (x ≤ 11)) (sym e) (fault-range l (wordsOf code) _ _ _ _ _ _ (λ z. n (e ∙ z)))
+
+            pub checked-word : (reason : Reason) → reasonVerdict reason ≡ refusedAt number (addressOf l at) → Checked l code before before (Refused reason)
+            unfolding wordsVerdict verdictOf ledgerAfter
+            checked-word reason e =
+                let words : checkVerdict l code (length before) ≡ refusedAt number (addressOf l at) =
+                by-words ∙ rw (← first-is) (simp (lt-ltb at (wordsOf code) found-inside) (ap (λ (x : ℕ). refusedAt x (addressOf l at)) (sym found-number))) in
+                record { verdict = e ∙ sym words; ledger = sym (ap (λ (v : Verdict). ledgerAfter v (ledgerOf l code) before) words) }
+
+          pub checked-all : number ≡ 0 → (after : List ℕ) → after ≡ ledgerOf l code → Checked l code before after Accepted
+          unfolding wordsVerdict verdictOf ledgerAfter
+          checked-all z after e =
+              let end = first-end (standingFault l before code 0) 0 (length code / 4) at number found z in
+              let top : firstFrom (codeFault l code) 0 (wordsOf code) ≡ wordsOf code = sym first-is ∙ found .place ∙ end ∙ zero-add (wordsOf code) in
+              let words : checkVerdict l code (length before) ≡ accepted = by-words ∙ rw top (simp (le-ltb (wordsOf code) (wordsOf code) (omega arith))) in
+              record { verdict = sym words; ledger = e ∙ sym (ap (λ (v : Verdict). ledgerAfter v (ledgerOf l code) before) words) }
+
+-- ---- the ledger
+
+pub landings-most : (l : Layout) (n : ℕ) (bytes : List ℕ) (first k j : ℕ) → landings l n bytes first k j ≤ k
+unfolding landings
+landings-most l n bytes first k j = sum-most _ k (λ i. small (eqb (landingAt l n bytes first i) j))
+  where
+    small : (b : Bool) → cond b 1 0 ≤ 1
+    small true = omega arith
+    small false = omega arith
+
+module _ (l : Layout) (code before clear′ roles after : List ℕ) (r : ℕ)
+    (n : length before ≡ wordsOf code) (c-length : length clear′ ≡ length before) (r-length : length roles ≡ length clear′) (a-length : length after ≡ length roles)
+    (cleared : Cleared before clear′) (written : RolesWritten code 0 0 (length code / 4) clear′ roles) (added : Added l code 0 (length code / 4) roles after r) where
+  -- an entry with no landing yet is its role
+  role-entry : (i : ℕ) → i < wordsOf code → getD roles i 0 ≡ roleAt code i
+  role-entry i h =
+      subst (λ (x : ℕ). getD roles x 0 ≡ getD clear′ x 0 / 4 * 4 + roleAt code i) (zero-add i) (written .inside i (omega arith) h)
+      ∙ ap (λ (x : ℕ). x / 4 * 4 + roleAt code i) (cleared .zero i (omega arith))
+      ∙ zero-add (roleAt code i)
+
+  -- no count is ever full
+  all-added : r ≡ wordsOf code
+  all-added =
+      split (wordsOf code) r (λ h. let m = added .most in omega arith)
+      (λ h.
+      let full = added .full h in
+      let j = landingAt l (length roles) code 0 r in
+      let role = role-entry j (let f = full .0 in omega arith) in
+      let small = role-below code j in
+      let most = landings-most l (length roles) code 0 r j in
+      absurd (over (full .1) role small most h))
+    where
+      over : {x y z w : ℕ} → length roles ≤ x / 4 + y → x ≡ z → z < 4 → y ≤ w → w < wordsOf code → ⊥
+      over p q s m h = omega arith
+
+  pub ledger-written : after ≡ ledgerOf l code
+  unfolding ledgerOf entryOf
+  ledger-written =
+      let words : length roles ≡ wordsOf code = omega arith in
+      list-is after _ (wordsOf code) (omega arith)
+      (λ i h.
+      added .moved i (omega arith)
+      ∙ ap₂ (λ (x y : ℕ). x + 4 * y) (role-entry i h) (ap₂ (λ (m k : ℕ). landings l m code 0 k i) words all-added)
+      ∙ add-comm (roleAt code i) (4 * landings l (wordsOf code) code 0 (wordsOf code) i))

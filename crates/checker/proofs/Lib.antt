@@ -1,0 +1,7 @@
+-- Laws that belong to no one function.
+pub mod Words
+pub mod First
+pub mod Slots
+pub mod Lists
+pub mod Ledgers
+pub mod Checks

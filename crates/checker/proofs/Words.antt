@@ -1,0 +1,28 @@
+-- Word k of a list of bytes is word k % 4 of bundle k / 4.
+use Prim.Native.Nat.{ℕ, zero, suc, _+_, _-_, _*_, _/_, _%_, _<_}
+use native.Mathlib.Nat.{add-zero, not-suc-le-zero, le-of-suc-le-suc}
+use native.Mathlib.Omega.{arith}
+use mathlib.Core.Path.{_≡_, _∙_, refl, sym, ap, ap₂}
+use mathlib.Core.List.{List}
+use lib.ListN.{getD}
+use Rattle.decoder.specs.Bundle.{slotReading, blank}
+use Rattle.decoder.proofs.Roles.{slot-of-bundle}
+use Rattle.checker.specs.Region.{wordAt, bundleWords, bundleAt, readingAt}
+
+pub bundle-word : (bytes : List ℕ) (b slot : ℕ) → slot < 4 → getD (bundleWords bytes b) slot 0 ≡ wordAt bytes (4 * b + slot)
+unfolding bundleWords
+bundle-word bytes b zero h = ap (wordAt bytes) (sym (add-zero (4 * b)))
+bundle-word bytes b (suc zero) h = refl
+bundle-word bytes b (suc (suc zero)) h = refl
+bundle-word bytes b (suc (suc (suc zero))) h = refl
+bundle-word bytes b (suc (suc (suc (suc n)))) h = absurd (not-suc-le-zero (le-of-suc-le-suc (le-of-suc-le-suc (le-of-suc-le-suc (le-of-suc-le-suc h)))))
+
+-- a word's own reading takes the bundle's first word and its own
+pub reading-at : (bytes : List ℕ) (k : ℕ) → readingAt bytes k ≡ slotReading (wordAt bytes (k - k % 4)) (wordAt bytes k) (k % 4)
+unfolding readingAt bundleAt
+reading-at bytes k =
+    let slot : k % 4 < 4 = omega arith in
+    slot-of-bundle (bundleWords bytes (k / 4)) (k % 4) slot
+    ∙ ap₂ (λ (x y : ℕ). slotReading x y (k % 4))
+    (bundle-word bytes (k / 4) 0 (omega arith) ∙ ap (wordAt bytes) (omega arith))
+    (bundle-word bytes (k / 4) (k % 4) slot ∙ ap (wordAt bytes) (omega arith))

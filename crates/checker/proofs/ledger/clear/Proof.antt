@@ -1,0 +1,63 @@
+-- `ledger::clear` meets its contract. The invariant: the entries passed are 0.
+use Prim.Native.Nat.{ℕ, _+_, _-_, _*_, _/_, _≤_, _<_}
+use native.Mathlib.Omega.{arith}
+use mathlib.Core.Path.{_≡_, _∙_, refl}
+use lib.ListN.{length, getD, set, length-set}
+use lib.Seq.{getD-set-same, getD-set-other}
+use native.Mathlib.Decide.{ℕ-discrete}
+use borrow.Author.Count.{below-more}
+use mathlib.Core.List.{List}
+use Rattle.checker.proofs.ledger.clear.Statement.{statement}
+use Rattle.checker.proofs.ledger.clear.Tie as tie
+
+abbrev Inv-loop : tie.InvT-loop
+Inv-loop ledger₀ i₀ ledger i = (i ≤ length ledger₀) × (length ledger ≡ length ledger₀) × ((t : ℕ) → t < i → getD ledger t 0 ≡ 0)
+
+abbrev μ-loop : tie.MeasureT-loop
+μ-loop ledger₀ i₀ ledger i = length ledger₀ - i
+
+loop-holds : tie.Need-loop-holds Inv-loop μ-loop
+loop-holds c = (omega arith, refl, λ t h. absurd (omega arith))
+
+mul-ledger : tie.Need-mul-ledger Inv-loop μ-loop
+mul-ledger c = omega arith
+
+slice-write-ledger : tie.Need-slice-write-ledger Inv-loop μ-loop
+slice-write-ledger c = omega arith
+
+add-i : tie.Need-add-i Inv-loop μ-loop
+add-i c = omega arith
+
+loop-less : tie.Need-loop-less Inv-loop μ-loop
+loop-less c = omega arith
+
+loop-again : tie.Need-loop-again Inv-loop μ-loop
+loop-again c =
+    let at = c .before in
+    let l = at .loop .ledger in
+    let i = at .loop .i in (
+      omega arith,
+      length-set l i 0 ∙ at .loop .inv .1,
+      below-more _ i (λ t h. getD-set-other l i t 0 0 (λ e. omega arith) ∙ at .loop .inv .2 t h) (getD-set-same l i 0 0 (c .loop-test .taken)),
+    )
+
+same-length : tie.Need-same-length Inv-loop μ-loop
+same-length c = c .before .loop .inv .1
+
+returns : tie.Need-returns Inv-loop μ-loop
+returns c = record { zero = λ i h. c .before .loop .inv .2 i (omega arith) }
+
+pub clear-spec : {M : Type 1} → statement M
+clear-spec =
+    tie.close
+    (tie.spec
+    Inv-loop
+    μ-loop
+    loop-holds
+    mul-ledger
+    slice-write-ledger
+    add-i
+    loop-less
+    loop-again
+    same-length
+    returns)

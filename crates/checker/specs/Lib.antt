@@ -1,0 +1,6 @@
+-- What a reader must believe of the check, in the order of "Region, layout, ledger" and "When the gate stays shut".
+pub mod Lists
+pub mod Region
+pub mod Standing
+pub mod Ledger
+pub mod Check

@@ -1,0 +1,68 @@
+// The check call.
+use crate::fault::first_fault;
+use crate::ledger::add_landings;
+use crate::ledger::clear;
+use crate::ledger::write_roles;
+use rules::layout::Layout;
+use rules::layout::layout_holds;
+use rules::layout::length_holds;
+use rules::outcome::Outcome;
+use rules::outcome::Reason;
+ghost use mathlib.Core.Path.{_≡_};
+ghost use Prim.Native.Nat.{_*_, _/_, _≤_};
+ghost use lib.ListN.{length};
+ghost use Rattle.rules.specs.Outcome.{refusedAt, reasonVerdict};
+ghost use Rattle.checker.specs.Standing.{Stands};
+ghost use Rattle.checker.specs.Check.{ledgerOf, Checked};
+
+// The reason of a rule from 4 to 11, with its address.
+pub(crate) fn reason(number: u32, at: u32) -> Reason
+    requires { ⌜ (4 ≤ number) × (number ≤ 11) ⌝ }
+    ensures { λ r. ⌜ reasonVerdict r ≡ refusedAt number at ⌝ }
+{
+    match number {
+        4 => Reason::NoClass { at },
+        5 => Reason::Register { at },
+        6 => Reason::StackPointer { at },
+        7 => Reason::Access { at },
+        8 => Reason::RegisterBranch { at },
+        9 => Reason::Call { at },
+        10 => Reason::LiteralLoad { at },
+        _ => Reason::Target { at },
+    }
+}
+
+// The ledger of a region in which no word breaks a rule.
+fn write_ledger(layout: Layout, code: &[u8], ledger: &mut [u32])
+    requires { ⌜ (Stands layout (length (now ledger)) (now code) 0) × (length (now ledger) ≡ length (now code) / 4) ⌝ }
+    ensures { λ _. ⌜ now (ledger .exit) ≡ ledgerOf layout (now (code .entry)) ⌝ }
+{
+    clear(ledger);
+    write_roles(layout, ledger, code, 0);
+    add_landings(layout, ledger, code, 0, code.len() / 4);
+}
+
+// Accepts the region exactly where every word meets the rules, and then writes its ledger. A refusal
+// changes nothing; the code is never changed.
+pub fn check(layout: Layout, code: &[u8], ledger: &mut [u32]) -> Outcome
+    ensures { λ r. ⌜ Checked layout (now (code .entry)) (now (ledger .entry)) (now (ledger .exit)) r ⌝ }
+{
+    let length = code.len();
+    if !layout_holds(layout, length) {
+        return Outcome::Refused(Reason::Layout);
+    }
+    if !length_holds(length) {
+        return Outcome::Refused(Reason::CodeLength);
+    }
+    if ledger.len() != length / 4 {
+        return Outcome::Refused(Reason::LedgerLength);
+    }
+    let found = first_fault(layout, ledger, code, 0);
+    let number = found.number;
+    if number != 0 {
+        let at = layout.code_start + (4 * found.at) as u32;
+        return Outcome::Refused(reason(number, at));
+    }
+    write_ledger(layout, code, ledger);
+    Outcome::Accepted
+}

@@ -1,0 +1,60 @@
+// The words, readings and roles of a slice of bytes.
+use decoder::bundle::reading;
+use decoder::bundle::readings;
+use decoder::bundle::roles;
+use decoder::reading::Reading;
+ghost use mathlib.Core.Path.{_≡_};
+ghost use Prim.Native.Nat.{_+_, _*_, _/_, _%_, _≤_, _<_};
+ghost use lib.ListN.{length};
+ghost use Rattle.checker.specs.Region.{wordAt, bundleAt, readingAt, roleAt};
+
+fn wide(byte: u8) -> u32
+    ensures { λ r. ⌜ (r ≡ byte) × (r < 256) ⌝ }
+{
+    byte as u32
+}
+
+// Word k, little-endian.
+fn word(bytes: &[u8], k: usize) -> u32
+    requires { ⌜ 4 * k + 4 ≤ length (now bytes) ⌝ }
+    ensures { λ r. ⌜ r ≡ wordAt (now (bytes .entry)) k ⌝ }
+{
+    let at = 4 * k;
+    wide(bytes[at])
+        + wide(bytes[at + 1]) * 256
+        + wide(bytes[at + 2]) * 65536
+        + wide(bytes[at + 3]) * 16777216
+}
+
+// The four readings of bundle b.
+pub(crate) fn bundle(bytes: &[u8], b: usize) -> [Reading; 4]
+    requires { ⌜ 16 * b + 16 ≤ length (now bytes) ⌝ }
+    ensures { λ r. ⌜ r ≡ bundleAt (now (bytes .entry)) b ⌝ }
+{
+    let k = 4 * b;
+    readings([
+        word(bytes, k),
+        word(bytes, k + 1),
+        word(bytes, k + 2),
+        word(bytes, k + 3),
+    ])
+}
+
+// The reading of word k alone.
+pub(crate) fn reading_at(bytes: &[u8], k: usize) -> Reading
+    requires { ⌜ (length (now bytes) % 16 ≡ 0) × (4 * k < length (now bytes)) ⌝ }
+    ensures { λ r. ⌜ r ≡ readingAt (now (bytes .entry)) k ⌝ }
+{
+    let slot = k % 4;
+    reading(word(bytes, k - slot), word(bytes, k), slot)
+}
+
+// The role of word k.
+pub(crate) fn role_at(bytes: &[u8], k: usize) -> u32
+    requires { ⌜ (length (now bytes) % 16 ≡ 0) × (4 * k < length (now bytes)) ⌝ }
+    ensures { λ r. ⌜ r ≡ roleAt (now (bytes .entry)) k ⌝ }
+{
+    let roles = roles(bundle(bytes, k / 4));
+    let slot = k % 4;
+    roles[slot]
+}

@@ -1,0 +1,42 @@
+-- `rule::literal_holds` meets its contract: the words begun before a are fewer than n exactly where four bytes more are within.
+use borrow.Author.Needs.{needs}
+use borrow.Author.Tests.{le-leb, lt-leb}
+use native.Mathlib.Omega.{arith}
+use Prim.Native.Nat.{ℕ, _+_, _-_, _*_, _/_, _%_, _≤_, _<_}
+use mathlib.Core.Path.{_≡_, sym}
+use Rattle.rules.specs.Rule.{literalHolds}
+use lib.Dec.{ltb, leb}
+use Rattle.rules.proofs.Tests.{ltb-leb}
+use Rattle.rules.proofs.rule.literal_holds.Statement.{statement}
+use Rattle.rules.proofs.rule.literal_holds.Tie as tie
+
+within : (s a n : ℕ) → s ≤ a → ltb ((a - s) / 4 + ((a - s) % 4 + 3) / 4) n ≡ leb (a + 4) (s + 4 * n)
+within s a n h = ltb-leb _ _ _ _ (inside s a n h) (outside s a n h)
+  where
+    inside : (s a n : ℕ) → s ≤ a → (a - s) / 4 + ((a - s) % 4 + 3) / 4 < n → a + 4 ≤ s + 4 * n
+    inside s a n h k = omega arith
+
+    outside : (s a n : ℕ) → s ≤ a → n ≤ (a - s) / 4 + ((a - s) % 4 + 3) / 4 → s + 4 * n < a + 4
+    outside s a n h k = omega arith
+
+cast-start : tie.Need-cast-start
+cast-start c = search needs
+
+returns : tie.Need-returns
+unfolding literalHolds
+returns c = simp (lt-leb _ _ (c .if1 .taken))
+
+add-begun : tie.Need-add-begun
+add-begun c = search needs
+
+add-begun-2 : tie.Need-add-begun-2
+add-begun-2 c = search needs
+
+returns-2 : tie.Need-returns-2
+unfolding literalHolds
+returns-2 c =
+    let a = c .before .before .args in
+    simp (le-leb _ _ (c .if1 .left), within (a .layout .«code_start») (a .a) (a .words) (c .if1 .left))
+
+pub literal-holds-spec : {M : Type 1} → statement M
+literal-holds-spec = tie.close (tie.spec cast-start returns add-begun add-begun-2 returns-2)

@@ -1,0 +1,36 @@
+-- The paper's number, and its address where it has one, for each answer.
+use Prim.Native.Nat.{ℕ}
+use Rattle.rules.specs.declared.outcome.Reason.{Reason}
+use Rattle.rules.specs.declared.outcome.Reason.the-variants.{Layout, CodeLength, LedgerLength, NoClass, Register, StackPointer, Access, RegisterBranch, Call, LiteralLoad, Target, PatchShape, Disagreement, Stranded}
+use Rattle.rules.specs.declared.outcome.Outcome.{Outcome}
+use Rattle.rules.specs.declared.outcome.Outcome.the-variants.{Accepted, Refused}
+
+-- what the paper fixes of an answer
+pub data Verdict : Type 0 where
+  accepted : Verdict
+  -- the number alone
+  refused : ℕ → Verdict
+  -- the number and the address
+  refusedAt : ℕ → ℕ → Verdict
+
+-- 4 to 11 and 14 carry an address, the others none
+unfoldable pub reasonVerdict : Reason → Verdict
+reasonVerdict Layout = refused 1
+reasonVerdict CodeLength = refused 2
+reasonVerdict LedgerLength = refused 3
+reasonVerdict (NoClass at) = refusedAt 4 at
+reasonVerdict (Register at) = refusedAt 5 at
+reasonVerdict (StackPointer at) = refusedAt 6 at
+reasonVerdict (Access at) = refusedAt 7 at
+reasonVerdict (RegisterBranch at) = refusedAt 8 at
+reasonVerdict (Call at) = refusedAt 9 at
+reasonVerdict (LiteralLoad at) = refusedAt 10 at
+reasonVerdict (Target at) = refusedAt 11 at
+reasonVerdict PatchShape = refused 12
+reasonVerdict Disagreement = refused 13
+reasonVerdict (Stranded at) = refusedAt 14 at
+
+unfoldable pub verdictOf : Outcome → Verdict
+unfolding reasonVerdict
+verdictOf Accepted = accepted
+verdictOf (Refused reason) = reasonVerdict reason
