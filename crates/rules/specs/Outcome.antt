@@ -1,5 +1,6 @@
 -- The paper's number, and its address where it has one, for each answer.
 use Prim.Native.Nat.{ℕ}
+use mathlib.Core.Bool.{Bool, true, false}
 use Rattle.rules.specs.declared.outcome.Reason.{Reason}
 use Rattle.rules.specs.declared.outcome.Reason.the-variants.{Layout, CodeLength, LedgerLength, NoClass, Register, StackPointer, Access, RegisterBranch, Call, LiteralLoad, Target, PatchShape, Disagreement, Stranded}
 use Rattle.rules.specs.declared.outcome.Outcome.{Outcome}
@@ -34,3 +35,20 @@ unfoldable pub verdictOf : Outcome → Verdict
 unfolding reasonVerdict
 verdictOf Accepted = accepted
 verdictOf (Refused reason) = reasonVerdict reason
+
+-- the number of a refusal, and 0 where there is none
+unfoldable pub numberOf : Verdict → ℕ
+numberOf accepted = 0
+numberOf (refused number) = number
+numberOf (refusedAt number at) = number
+
+unfoldable pub carriesAddress : Verdict → Bool
+carriesAddress accepted = false
+carriesAddress (refused number) = false
+carriesAddress (refusedAt number at) = true
+
+-- the address of a refusal, and 0 where there is none
+unfoldable pub placeOf : Verdict → ℕ
+placeOf accepted = 0
+placeOf (refused number) = 0
+placeOf (refusedAt number at) = at

@@ -1,5 +1,6 @@
 // What a call answers: accepted, or refused for a reason, with its address where it has one.
 ghost use mathlib.Core.Path.{_≡_};
+ghost use Rattle.rules.specs.Outcome.{reasonVerdict, numberOf, carriesAddress, placeOf};
 
 pub enum Reason {
     // 1: the layout breaks a rule.
@@ -35,4 +36,56 @@ pub enum Reason {
 pub enum Outcome {
     Accepted,
     Refused(Reason),
+}
+
+// The paper's number of a reason.
+pub fn number(reason: Reason) -> u32
+    ensures { λ r. ⌜ r ≡ numberOf (reasonVerdict reason) ⌝ }
+{
+    match reason {
+        Reason::Layout => 1,
+        Reason::CodeLength => 2,
+        Reason::LedgerLength => 3,
+        Reason::NoClass { at: _ } => 4,
+        Reason::Register { at: _ } => 5,
+        Reason::StackPointer { at: _ } => 6,
+        Reason::Access { at: _ } => 7,
+        Reason::RegisterBranch { at: _ } => 8,
+        Reason::Call { at: _ } => 9,
+        Reason::LiteralLoad { at: _ } => 10,
+        Reason::Target { at: _ } => 11,
+        Reason::PatchShape => 12,
+        Reason::Disagreement => 13,
+        Reason::Stranded { at: _ } => 14,
+    }
+}
+
+// 4 to 11 and 14 carry an address, the others none.
+pub fn carries_address(reason: Reason) -> bool
+    ensures { λ r. ⌜ r ≡ carriesAddress (reasonVerdict reason) ⌝ }
+{
+    let n = number(reason);
+    ((4 <= n) & (n <= 11)) | (n == 14)
+}
+
+// The address, or 0 where there is none.
+pub fn address(reason: Reason) -> u32
+    ensures { λ r. ⌜ r ≡ placeOf (reasonVerdict reason) ⌝ }
+{
+    match reason {
+        Reason::Layout => 0,
+        Reason::CodeLength => 0,
+        Reason::LedgerLength => 0,
+        Reason::NoClass { at } => at,
+        Reason::Register { at } => at,
+        Reason::StackPointer { at } => at,
+        Reason::Access { at } => at,
+        Reason::RegisterBranch { at } => at,
+        Reason::Call { at } => at,
+        Reason::LiteralLoad { at } => at,
+        Reason::Target { at } => at,
+        Reason::PatchShape => 0,
+        Reason::Disagreement => 0,
+        Reason::Stranded { at } => at,
+    }
 }

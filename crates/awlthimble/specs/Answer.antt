@@ -1,0 +1,20 @@
+-- An answer as one number, and what the C interface's calls promise.
+use Prim.Native.Nat.{ℕ, _+_, _*_, _^_}
+use mathlib.Core.Path.{_≡_}
+use mathlib.Core.Bool.{Bool}
+use mathlib.Core.List.{List}
+use lib.ListN.{length}
+use Rattle.rules.specs.declared.layout.Layout.{Layout}
+use Rattle.rules.specs.Outcome.{Verdict, numberOf, placeOf}
+use Rattle.checker.specs.Check.{checkVerdict, ledgerOf, ledgerAfter}
+
+-- 0 where accepted; else the number in the low 32 bits and the address, 0 where there is none, in the high 32
+unfoldable pub packed : Verdict → ℕ
+packed v = numberOf v + placeOf v * 2 ^ 32
+
+abbrev pub layoutOf : ℕ → ℕ → ℕ → Bool → Layout
+layoutOf start first end tests = record { «code_start» = start; «trampoline_first» = first; «trampoline_end» = end; «test_pairs» = tests }
+
+pub record CheckAnswered (l : Layout) (code before after : List ℕ) (r : ℕ) : Type 0 where
+  pub answer : r ≡ packed (checkVerdict l code (length before))
+  pub ledger : after ≡ ledgerAfter (checkVerdict l code (length before)) (ledgerOf l code) before

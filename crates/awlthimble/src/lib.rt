@@ -1,0 +1,48 @@
+// The C interface: the calls again, on numbers and slices. A slice is a pointer and a length there.
+// An answer is one number: 0 where accepted, else the refusal's number in the low 32 bits and its
+// address, 0 where it has none, in the high 32.
+use checker::check::check;
+use rules::layout::Layout;
+use rules::outcome::Outcome;
+use rules::outcome::address;
+use rules::outcome::number;
+ghost use mathlib.Core.Path.{_≡_};
+ghost use lib.ListN.{length};
+ghost use Rattle.rules.specs.Outcome.{verdictOf};
+ghost use Rattle.awlthimble.specs.Answer.{packed, layoutOf, CheckAnswered};
+
+fn answer(outcome: Outcome) -> u64
+    ensures { λ r. ⌜ r ≡ packed (verdictOf outcome) ⌝ }
+{
+    match outcome {
+        Outcome::Accepted => 0,
+        Outcome::Refused(reason) => number(reason) as u64 + address(reason) as u64 * 0x1_0000_0000,
+    }
+}
+
+fn layout(code_start: u32, trampoline_first: u32, trampoline_end: u32, test_pairs: bool) -> Layout
+    ensures { λ r. ⌜ r ≡ layoutOf «code_start» «trampoline_first» «trampoline_end» «test_pairs» ⌝ }
+{
+    Layout {
+        code_start,
+        trampoline_first,
+        trampoline_end,
+        test_pairs,
+    }
+}
+
+// The check.
+#[no_mangle]
+pub extern "C" fn awl_check(
+    code_start: u32,
+    trampoline_first: u32,
+    trampoline_end: u32,
+    test_pairs: bool,
+    code: &[u8],
+    ledger: &mut [u32],
+) -> u64
+    ensures { λ r. ⌜ CheckAnswered (layoutOf «code_start» «trampoline_first» «trampoline_end» «test_pairs») (now (code .entry)) (now (ledger .entry)) (now (ledger .exit)) r ⌝ }
+{
+    let layout = layout(code_start, trampoline_first, trampoline_end, test_pairs);
+    answer(check(layout, code, ledger))
+}

@@ -1,0 +1,27 @@
+/* The gate for untrusted 32-bit ARM add-ons. Each call answers 0 where it accepts; else the refusal's
+ * number in the low 32 bits and its address, 0 where it has none, in the high 32. A refusal changes no
+ * byte of code and no ledger entry. Any lengths and contents may be passed; the pointers must be good
+ * for them, ledger must not overlap the bytes, and a pointer of length 0 must not be NULL. */
+#ifndef AWLTHIMBLE_H
+#define AWLTHIMBLE_H
+
+#include <stdbool.h>
+#include <stddef.h>
+#include <stdint.h>
+
+#ifdef __cplusplus
+extern "C" {
+#endif
+
+/* Checks code that is to stand at code_start, with trampolines from trampoline_first up to, and not
+ * with, trampoline_end. Where it accepts, each ledger entry is 4 x (direct branches that land on the
+ * word) + its role: 0 plain, 1 inner, 2 data, 3 literal head. */
+uint64_t awl_check(uint32_t code_start, uint32_t trampoline_first, uint32_t trampoline_end,
+                   bool test_pairs, const uint8_t *code, size_t code_len, uint32_t *ledger,
+                   size_t ledger_len);
+
+#ifdef __cplusplus
+}
+#endif
+
+#endif

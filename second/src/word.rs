@@ -1,0 +1,195 @@
+//! Reading one word: the paper's classes, and nothing of slots or pairs.
+
+pub const NOP: u32 = 0xE320_F000;
+pub const SP: u32 = 13;
+pub const PC: u32 = 15;
+
+const TST: u32 = 8;
+const BIC: u32 = 14;
+
+/// A word in its class. A literal load is an access; the literal head is a
+/// matter of slots and so belongs to the bundle.
+#[derive(Clone, Copy, Debug, PartialEq, Eq)]
+pub struct Reading {
+    pub class: Class,
+    word: u32,
+}
+
+#[derive(Clone, Copy, Debug, PartialEq, Eq)]
+pub enum Class {
+    Data,
+    HalfMove,
+    Nop,
+    Multiply,
+    Access,
+    Branch,
+    RegisterBranch,
+}
+
+/// The reading of a word, or none where it is in no class.
+pub fn read(word: u32) -> Option<Reading> {
+    if field(word, 28) == 15 {
+        return None;
+    }
+    let class = match word >> 25 & 7 {
+        0b000 if bit(word, 7) && bit(word, 4) => is_multiply(word).then_some(Class::Multiply),
+        0b000 if is_data(word) => Some(Class::Data),
+        0b000 => is_register_branch(word).then_some(Class::RegisterBranch),
+        0b001 if is_data(word) => Some(Class::Data),
+        0b001 if word == NOP => Some(Class::Nop),
+        0b001 => is_half_move(word).then_some(Class::HalfMove),
+        0b010 => is_access(word).then_some(Class::Access),
+        0b101 => Some(Class::Branch),
+        _ => None,
+    };
+    class.map(|class| Reading { class, word })
+}
+
+/// Tells data words from the others with bits 27..25 of 001, or 000 without
+/// bits 7 and 4 both set.
+fn is_data(word: u32) -> bool {
+    match field(word, 21) {
+        8..=11 => bit(word, 20) && field(word, 12) == 0,
+        13 | 15 => field(word, 16) == 0,
+        _ => true,
+    }
+}
+
+fn is_half_move(word: u32) -> bool {
+    matches!(word >> 20 & 0xFF, 0x30 | 0x34)
+}
+
+fn is_multiply(word: u32) -> bool {
+    let listed = match word >> 21 & 0x7F {
+        0 => field(word, 12) == 0,
+        operation => operation == 1,
+    };
+    listed && field(word, 4) == 9
+}
+
+fn is_access(word: u32) -> bool {
+    let (p, w) = (bit(word, 24), bit(word, 21));
+    match (p, w) {
+        (false, true) => false,
+        (true, false) => true,
+        _ => field(word, 16) != field(word, 12),
+    }
+}
+
+fn is_register_branch(word: u32) -> bool {
+    matches!(word >> 4 & 0xFF_FFFF, 0x12_FFF1 | 0x12_FFF3)
+}
+
+fn bit(word: u32, place: u32) -> bool {
+    word >> place & 1 == 1
+}
+
+/// Four bits from a place up.
+fn field(word: u32, place: u32) -> u32 {
+    word >> place & 15
+}
+
+impl Reading {
+    pub fn condition(&self) -> u32 {
+        field(self.word, 28)
+    }
+
+    /// Bits 19..16: an access's base, a multiply's target.
+    pub fn rn(&self) -> u32 {
+        field(self.word, 16)
+    }
+
+    /// Bits 15..12, for an access Rt.
+    pub fn rd(&self) -> u32 {
+        field(self.word, 12)
+    }
+
+    fn rs(&self) -> u32 {
+        field(self.word, 8)
+    }
+
+    pub fn rm(&self) -> u32 {
+        field(self.word, 0)
+    }
+
+    /// Whether a register field, a literal load's base apart, holds one of a set
+    /// of registers, given as bits. A field that must be 0 may count as r0: no
+    /// rule minds.
+    pub fn names(&self, set: u32) -> bool {
+        let has = |register: u32| set >> register & 1 == 1;
+        match self.class {
+            Class::Data if bit(self.word, 25) => has(self.rn()) || has(self.rd()),
+            Class::Data => {
+                let shifts = bit(self.word, 4) && has(self.rs());
+                has(self.rn()) || has(self.rd()) || has(self.rm()) || shifts
+            }
+            Class::HalfMove => has(self.rd()),
+            Class::Multiply => has(self.rn()) || has(self.rd()) || has(self.rs()) || has(self.rm()),
+            Class::Access => has(self.rd()) || has(self.rn()) && !self.is_literal_load(),
+            Class::RegisterBranch => has(self.rm()),
+            Class::Nop | Class::Branch => false,
+        }
+    }
+
+    /// Whether this is a data word that writes r13.
+    pub fn writes_stack(&self) -> bool {
+        let writes = !matches!(field(self.word, 21), 8..=11);
+        self.class == Class::Data && writes && self.rd() == SP
+    }
+
+    /// Whether this data word sets the flags.
+    pub fn sets_flags(&self) -> bool {
+        bit(self.word, 20)
+    }
+
+    /// An immediate bic without S: the register it reads and writes, when that
+    /// is one, and the bits it clears.
+    pub fn cleared(&self) -> Option<(u32, u32)> {
+        let is_bic = self.is_immediate(BIC) && !self.sets_flags() && self.rd() == self.rn();
+        is_bic.then(|| (self.rd(), self.immediate()))
+    }
+
+    /// An immediate tst: the register and the bits it tests.
+    pub fn tested(&self) -> Option<(u32, u32)> {
+        self.is_immediate(TST).then(|| (self.rn(), self.immediate()))
+    }
+
+    fn is_immediate(&self, operation: u32) -> bool {
+        self.class == Class::Data && bit(self.word, 25) && field(self.word, 21) == operation
+    }
+
+    fn immediate(&self) -> u32 {
+        (self.word & 0xFF).rotate_right(2 * field(self.word, 8))
+    }
+
+    /// Whether an access loads.
+    pub fn loads(&self) -> bool {
+        bit(self.word, 20)
+    }
+
+    /// Whether an access is a literal load: Rn = 15, P = 1, B = W = 0, L = 1.
+    pub fn is_literal_load(&self) -> bool {
+        self.class == Class::Access && self.rn() == PC && self.word >> 20 & 0b10111 == 0b10001
+    }
+
+    /// Where a literal load at this address reads.
+    pub fn literal(&self, address: u32) -> i64 {
+        let distance = i64::from(self.word & 0xFFF);
+        i64::from(address) + 8 + if bit(self.word, 23) { distance } else { -distance }
+    }
+
+    /// Whether a branch of either kind is a call.
+    pub fn is_call(&self) -> bool {
+        match self.class {
+            Class::Branch => bit(self.word, 24),
+            Class::RegisterBranch => bit(self.word, 5),
+            _ => false,
+        }
+    }
+
+    /// Where a direct branch at this address goes.
+    pub fn target(&self, address: u32) -> Option<i64> {
+        let words = (self.word << 8) as i32 >> 8;
+        (self.class == Class::Branch).then_some(i64::from(address) + 8 + 4 * i64::from(words))
+    }
+}
