@@ -18,7 +18,8 @@ use Rattle.rules.specs.declared.outcome.Outcome.the-variants.{Accepted, Refused
 use Rattle.rules.specs.Layout.{layoutHolds, lengthHolds, addressOf}
 use Rattle.rules.specs.Outcome.{Verdict, accepted, refused, refusedAt, reasonVerdict, verdictOf}
 use Rattle.rules.specs.Rule.{landingOf, faultOf}
-use Rattle.rules.proofs.Says.{layout-ends, length-says, fault-range}
+use Rattle.rules.proofs.Says.{layout-ends, length-says}
+use Rattle.rules.proofs.Lowest.{lowest}
 use Rattle.checker.specs.Lists.{firstFrom, First, sum}
 use Rattle.checker.specs.Region.{roleAt, beforeAt, readingAt, nextAt}
 use Rattle.checker.specs.Standing.{targetAt, landingAt, landings, targetRole, faultAt, roleFrom, standingFault, Stands}
@@ -103,7 +104,8 @@ module _ (l : Layout) (code before : List ℕ) where
             unfolding codeFault faultAt
             found-range =
                 let e = found-number in
-                subst (λ (x : ℕ). (4 ≤ x) × (x ≤ 11)) (sym e) (fault-range l (wordsOf code) _ _ _ _ _ _ (λ z. n (e ∙ z)))
+                let low = lowest l (wordsOf code) _ _ _ _ _ _ (λ z. n (e ∙ z)) in
+                subst (λ (x : ℕ). (4 ≤ x) × (x ≤ 11)) (sym e) (low .from-4, low .to-11)
 
             pub checked-word : (reason : Reason) → reasonVerdict reason ≡ refusedAt number (addressOf l at) → Checked l code before before (Refused reason)
             unfolding wordsVerdict verdictOf ledgerAfter

@@ -5,3 +5,6 @@ pub mod Slots
 pub mod Lists
 pub mod Ledgers
 pub mod Checks
+pub mod Outcomes
+pub mod Inner
+pub mod Demands

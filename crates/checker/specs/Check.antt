@@ -11,7 +11,7 @@ use Rattle.rules.specs.Layout.{layoutHolds, lengthHolds, addressOf}
 use Rattle.rules.specs.Outcome.{Verdict, accepted, refused, refusedAt, verdictOf}
 use Rattle.checker.specs.Lists.{firstFrom, listOf}
 use Rattle.checker.specs.Region.{roleAt}
-use Rattle.checker.specs.Standing.{landings, faultAt}
+use Rattle.checker.specs.Standing.{landings, faultAt, breaksAt}
 
 -- the number of words of a region
 abbrev pub wordsOf : List ℕ → ℕ
@@ -20,6 +20,10 @@ wordsOf code = length code / 4
 -- the lowest number that word k of a region breaks, or 0: the role of its target is the code's
 unfoldable pub codeFault : Layout → List ℕ → ℕ → ℕ
 codeFault l code k = faultAt l (wordsOf code) (roleAt code) code 0 k
+
+-- word k of a region breaks the rule of this number
+unfoldable pub wordBreaks : Layout → List ℕ → ℕ → ℕ → Bool
+wordBreaks l code k number = breaksAt l (wordsOf code) (roleAt code) code 0 k number
 
 -- words by rising address, lowest number first
 unfoldable pub wordsVerdict : Layout → List ℕ → Verdict

@@ -2,7 +2,7 @@
 -- the whole region, from word 0; the patch has the bundles at its offset.
 use Prim.Native.Nat.{ℕ, _+_, _-_, _*_, _/_, _%_, _≤_}
 use mathlib.Core.Path.{_≡_}
-use mathlib.Core.Bool.{_&&_, cond}
+use mathlib.Core.Bool.{Bool, _&&_, cond}
 use mathlib.Core.List.{List}
 use lib.Dec.{eqb, ltb, leb}
 use lib.ListN.{length, getD}
@@ -11,7 +11,7 @@ use Rattle.decoder.specs.Place.{targetOf}
 use Rattle.decoder.specs.Bundle.{plain}
 use Rattle.rules.specs.declared.layout.Layout.{Layout}
 use Rattle.rules.specs.Layout.{addressOf}
-use Rattle.rules.specs.Rule.{landingOf, faultOf}
+use Rattle.rules.specs.Rule.{landingOf, faultOf, breaks}
 use Rattle.checker.specs.Lists.{sum}
 use Rattle.checker.specs.Region.{readingAt, beforeAt, nextAt, roleAt}
 
@@ -36,6 +36,11 @@ module _ (l : Layout) (n : ℕ) where
   unfoldable pub faultAt : (ℕ → ℕ) → List ℕ → ℕ → ℕ → ℕ
   faultAt roleOf bytes first k =
       faultOf l n (beforeAt bytes k) (readingAt bytes k) (nextAt bytes k) (k % 4) (addressOf l (first + k)) (targetRole roleOf (targetAt bytes first k))
+
+  -- word k of the bytes breaks the rule of this number
+  unfoldable pub breaksAt : (ℕ → ℕ) → List ℕ → ℕ → ℕ → ℕ → Bool
+  breaksAt roleOf bytes first k number =
+      breaks l n (beforeAt bytes k) (readingAt bytes k) (nextAt bytes k) (k % 4) (addressOf l (first + k)) (targetRole roleOf (targetAt bytes first k)) number
 
 -- the roles of a region of which these bundles are at hand: theirs inside, and the ledger's outside
 unfoldable pub roleFrom : List ℕ → List ℕ → ℕ → ℕ → ℕ

@@ -7,4 +7,5 @@ pub mod Classes
 pub mod Masks
 pub mod Roles
 pub mod Apart
+pub mod Plain
 pub mod Unique

@@ -1,3 +1,4 @@
 -- Laws that belong to no one function.
 pub mod Tests
 pub mod Says
+pub mod Lowest

@@ -1,9 +1,11 @@
 -- "When the gate stays shut", 4 to 11: each rule is a yes or no of a word in its bundle, yes where the word breaks it. The words beside it
 -- in the bundle are handed in, and outside the bundle a blank, which guards and closes nothing; so is the role of the word that its
 -- direct target is.
-use Prim.Native.Nat.{ℕ, _+_, _-_, _*_, _/_, _%_}
+use Prim.Native.Nat.{ℕ, suc, _+_, _-_, _*_, _/_, _%_}
 use mathlib.Core.Bool.{Bool, true, false, not, _&&_, _||_, cond}
+use mathlib.Core.List.{List, [], _∷_}
 use lib.Dec.{eqb, ltb, leb}
+use lib.ListN.{getD}
 use Rattle.decoder.specs.declared.reading.Kind.{Kind}
 use Rattle.decoder.specs.declared.reading.Reading.{Reading}
 use Rattle.decoder.specs.declared.place.Place.{Place}
@@ -79,14 +81,29 @@ rule11 l n Absent role = false
 rule11 l n Below role = true
 rule11 l n (At a) role = not ((ltb (wordAtAddress l n a) n && landable role) || inTrampolines l a)
 
+-- 4 to 11, in order
+unfoldable pub rulesOf : Layout → ℕ → Reading → Reading → Reading → ℕ → ℕ → ℕ → List Bool
+rulesOf l n before word next slot address role =
+    rule4 (word .kind)
+    ∷ rule5 (word .kind)
+    ∷ rule6 word next
+    ∷ rule7 l before word
+    ∷ rule8 before word
+    ∷ rule9 (word .kind) slot
+    ∷ rule10 l n (literalOf (word .kind) address)
+    ∷ rule11 l n (targetOf (word .kind) address) role
+    ∷ []
+
+-- the number of the first that is broken, counted from i, or 0
+unfoldable pub lowestFrom : ℕ → List Bool → ℕ
+lowestFrom i [] = 0
+lowestFrom i (b ∷ bs) = cond b i (lowestFrom (suc i) bs)
+
 -- the lowest number that a word breaks, or 0
 unfoldable pub faultOf : Layout → ℕ → Reading → Reading → Reading → ℕ → ℕ → ℕ → ℕ
-faultOf l n before word next slot address role =
-    cond (rule4 (word .kind)) 4
-    (cond (rule5 (word .kind)) 5
-    (cond (rule6 word next) 6
-    (cond (rule7 l before word) 7
-    (cond (rule8 before word) 8
-    (cond (rule9 (word .kind) slot) 9
-    (cond (rule10 l n (literalOf (word .kind) address)) 10
-    (cond (rule11 l n (targetOf (word .kind) address) role) 11 0)))))))
+faultOf l n before word next slot address role = lowestFrom 4 (rulesOf l n before word next slot address role)
+
+-- the word breaks the rule of this number
+unfoldable pub breaks : Layout → ℕ → Reading → Reading → Reading → ℕ → ℕ → ℕ → ℕ → Bool
+breaks l n before word next slot address role number =
+    cond (ltb number 4) false (getD (rulesOf l n before word next slot address role) (number - 4) false)

@@ -5,7 +5,7 @@ use mathlib.Core.Path.{_≡_, _∙_, sym, ap}
 use mathlib.Core.Bool.{false}
 use Rattle.decoder.specs.declared.place.Place.{Place}
 use Rattle.decoder.specs.Place.{literalOf, targetOf}
-use Rattle.rules.specs.Rule.{rule4, rule5, rule6, rule7, rule8, rule9, rule10, rule11, faultOf}
+use Rattle.rules.specs.Rule.{rule4, rule5, rule6, rule7, rule8, rule9, rule10, rule11, rulesOf, lowestFrom, faultOf}
 use Rattle.rules.proofs.rule.fault.Statement.{statement}
 use Rattle.rules.proofs.rule.fault.Tie as tie
 
@@ -39,14 +39,14 @@ rule4-requires : tie.Need-rule4-requires
 rule4-requires c κs = search needs
 
 returns : tie.Need-returns
-unfolding faultOf
+unfolding faultOf rulesOf lowestFrom
 returns c = simp (sym (c .before .rule4 .ensures) ∙ c .if1 .taken)
 
 rule5-requires : tie.Need-rule5-requires
 rule5-requires c κs = search needs
 
 returns-2 : tie.Need-returns-2
-unfolding faultOf
+unfolding faultOf rulesOf lowestFrom
 returns-2 c =
     let c4 = c .before .before in
     simp (rule4-kept c4, sym (c .before .rule5 .ensures) ∙ c .if2 .taken)
@@ -55,7 +55,7 @@ rule6-requires : tie.Need-rule6-requires
 rule6-requires c κs = search needs
 
 returns-3 : tie.Need-returns-3
-unfolding faultOf
+unfolding faultOf rulesOf lowestFrom
 returns-3 c =
     let c5 = c .before .before in
     let c4 = c5 .before .before in
@@ -65,7 +65,7 @@ rule7-requires : tie.Need-rule7-requires
 rule7-requires c κs = search needs
 
 returns-4 : tie.Need-returns-4
-unfolding faultOf
+unfolding faultOf rulesOf lowestFrom
 returns-4 c =
     let c6 = c .before .before in
     let c5 = c6 .before .before in
@@ -76,7 +76,7 @@ rule8-requires : tie.Need-rule8-requires
 rule8-requires c κs = search needs
 
 returns-5 : tie.Need-returns-5
-unfolding faultOf
+unfolding faultOf rulesOf lowestFrom
 returns-5 c =
     let c7 = c .before .before in
     let c6 = c7 .before .before in
@@ -88,7 +88,7 @@ rule9-requires : tie.Need-rule9-requires
 rule9-requires c κs = search needs
 
 returns-6 : tie.Need-returns-6
-unfolding faultOf
+unfolding faultOf rulesOf lowestFrom
 returns-6 c =
     let c8 = c .before .before in
     let c7 = c8 .before .before in
@@ -104,7 +104,7 @@ rule10-requires : tie.Need-rule10-requires
 rule10-requires c κs = search needs
 
 returns-7 : tie.Need-returns-7
-unfolding faultOf
+unfolding faultOf rulesOf lowestFrom
 returns-7 c =
     let c9 = c .before .before .before in
     let c8 = c9 .before .before in
@@ -121,7 +121,7 @@ rule11-requires : tie.Need-rule11-requires
 rule11-requires c κs = search needs
 
 returns-8 : tie.Need-returns-8
-unfolding faultOf
+unfolding faultOf rulesOf lowestFrom
 returns-8 c =
     let c10 = c .before .before .before in
     let c9 = c10 .before .before .before in
@@ -133,7 +133,7 @@ returns-8 c =
     simp (rule4-kept c4, rule5-kept c5, rule6-kept c6, rule7-kept c7, rule8-kept c8, rule9-kept c9, rule10-kept c10, ap (λ (p : Place). rule11 (c .before .before .before .before .before .before .before .before .before .before .before .before .before .before .before .before .before .before .args .layout) (c .before .before .before .before .before .before .before .before .before .before .before .before .before .before .before .before .before .before .args .words) p (c .before .before .before .before .before .before .before .before .before .before .before .before .before .before .before .before .before .before .args .role)) (sym (c .before .before .target .ensures)) ∙ sym (c .before .rule11 .ensures) ∙ c .if8 .taken)
 
 returns-9 : tie.Need-returns-9
-unfolding faultOf
+unfolding faultOf rulesOf lowestFrom
 returns-9 c =
     let c10 = c .before .before .before in
     let c9 = c10 .before .before .before in

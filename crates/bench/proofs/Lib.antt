@@ -1,0 +1,2 @@
+-- The marked words from the bench, proved together.
+pub mod Table
