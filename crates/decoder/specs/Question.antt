@@ -41,7 +41,7 @@ names r (Branch call offset) = false
 names r Head = false
 names r (Literal low) = false
 
--- the register that an access goes through; a literal load is an access on r15
+-- the register that an access goes through. A literal load, always on r15, asks for no guard and has none here
 unfoldable pub baseOf : Kind → ℕ
 baseOf k = ofAccess (λ f. f .rn) 16 k
 
