@@ -65,7 +65,7 @@ roleAlone (RegisterBranch call rm) = plain
 unfoldable pub roleAfter : Reading → Reading → ℕ
 roleAfter first second = cond (isPair first second) inner (roleAlone (second .kind))
 
--- what stands past the end of a list of readings, which nobody reads
+-- the neighbour of slot 0 and of slot 3 outside the bundle: in no class, it guards and closes nothing
 abbrev pub blank : Reading
 blank = record { condition = 0; kind = Unlisted }
 

@@ -2,3 +2,4 @@
 pub mod Tests
 pub mod Says
 pub mod Lowest
+pub mod Unique
