@@ -77,13 +77,13 @@ module _ (l : List ℕ) (j : ℕ) where
   kept i d = sym (ap (λ (x : ℕ). getD l i 0 + 4 * x) (miss j i d) ∙ add-zero (getD l i 0))
 
   pub raised-none : length l ≤ j → Raised j l l true
-  raised-none h = record { more = λ e i k. kept i (λ q. omega arith); full = λ e. absurd (true≢false e) }
+  raised-none h = record { more = λ e i k. kept i (λ q. omega arith); room = λ e k. absurd (omega arith); full = λ e. absurd (true≢false e) }
 
   pub raised-full : j < length l → length l ≤ getD l j 0 / 4 → Raised j l l false
-  raised-full h k = record { more = λ e. absurd (false≢true e); full = λ e. (refl, h, k) }
+  raised-full h k = record { more = λ e. absurd (false≢true e); room = λ e. absurd (false≢true e); full = λ e. (refl, h, k) }
 
-  pub raised-one : j < length l → Raised j l (set l j (getD l j 0 + 4)) true
-  raised-one h =
+  pub raised-one : j < length l → getD l j 0 / 4 < length l → Raised j l (set l j (getD l j 0 + 4)) true
+  raised-one h space =
       let v = getD l j 0 + 4 in
       record {
         more = λ e i k.
@@ -93,6 +93,7 @@ module _ (l : List ℕ) (j : ℕ) where
                   (getD-set-same l j v 0 h ∙ ap (λ (x : ℕ). getD l j 0 + 4 * x) (sym (hit j)))
               | no d ↦ getD-set-other l j i v 0 (λ q. d (sym q)) ∙ kept i d
             ];
+        room = λ e k. space;
         full = λ e. absurd (true≢false e);
       }
 
@@ -111,6 +112,10 @@ module _ (l : Layout) (bytes : List ℕ) (first : ℕ) (before : List ℕ) where
   abbrev pub Moved : ℕ → List ℕ → Type 0
   Moved k after = (i : ℕ) → i < length before → getD after i 0 ≡ getD before i 0 + 4 * landings l (length before) bytes first k i
 
+  -- each count is at most the number of words
+  abbrev pub Within : List ℕ → Type 0
+  Within after = (i : ℕ) → i < length before → getD after i 0 / 4 ≤ length before
+
   pub moved-none : Moved 0 before
   moved-none i h = sym (ap (λ (x : ℕ). getD before i 0 + 4 * x) (landings-none l (length before) bytes first i) ∙ add-zero (getD before i 0))
 
@@ -123,12 +128,26 @@ module _ (l : Layout) (bytes : List ℕ) (first : ℕ) (before : List ℕ) where
         let here = m i h in
         omega arith
 
-    pub stopped : (asked : ℕ) → k < asked → r ≡ false → Added l bytes first asked before after k
-    stopped asked h f =
+    -- a count that was within stays so
+    pub within-more : r ≡ true → Within now′ → Within after
+    within-more t w i h =
+        let one = raised .more t i (omega arith) in
+        elim (ℕ-discrete j i) [
+          | yes q ↦
+              let room = raised .room t (omega arith) in
+              let hit′ : _≡_ {A = ℕ} (cond (eqb j i) 1 0) 1 = subst (λ (x : ℕ). _≡_ {A = ℕ} (cond (eqb j x) 1 0) 1) q (hit j) in
+              let same-entry : getD now′ j 0 ≡ getD now′ i 0 = ap (λ (x : ℕ). getD now′ x 0) q in
+              omega arith
+          | no d ↦ let miss′ = miss j i d in let old = w i h in omega arith
+        ]
+
+    pub stopped : (asked : ℕ) → k < asked → (Within before → Within now′) → r ≡ false → Added l bytes first asked before after k
+    stopped asked h keeps f =
         let full = raised .full f in
         record {
           most = omega arith;
           moved = subst (λ (x : List ℕ). Moved k x) (sym (full .0)) m;
+          within = λ w. subst (λ (x : List ℕ). Within x) (sym (full .0)) (keeps w);
           full = λ _. subst (λ (x : ℕ). (x < length before) × (length before ≤ getD before x 0 / 4 + landings l (length before) bytes first k x)) e (inside (full .1), over (full .1) (full .2));
         }
       where

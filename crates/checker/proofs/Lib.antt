@@ -4,6 +4,8 @@ pub mod First
 pub mod Slots
 pub mod Lists
 pub mod Ledgers
+pub mod Taking
+pub mod Moving
 pub mod Checks
 pub mod Outcomes
 pub mod Inner

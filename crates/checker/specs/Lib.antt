@@ -4,3 +4,5 @@ pub mod Region
 pub mod Standing
 pub mod Ledger
 pub mod Check
+pub mod Patch
+pub mod PatchParts

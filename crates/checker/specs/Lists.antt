@@ -1,7 +1,7 @@
 -- Numbers counted off: a sum, the first that is not zero, and a list made place by place.
 use Prim.Native.Nat.{ℕ, zero, suc, _+_}
 use mathlib.Core.Path.{_≡_}
-use mathlib.Core.Bool.{cond}
+use mathlib.Core.Bool.{Bool, true, _&&_, cond}
 use mathlib.Core.List.{List, [], _∷_}
 use lib.Dec.{eqb, ltb}
 
@@ -9,6 +9,11 @@ use lib.Dec.{eqb, ltb}
 unfoldable pub sum : (ℕ → ℕ) → ℕ → ℕ
 sum f zero = 0
 sum f (suc n) = sum f n + f n
+
+-- the test passes at 0, .., n - 1
+unfoldable pub all : (ℕ → Bool) → ℕ → Bool
+all f zero = true
+all f (suc n) = all f n && f n
 
 -- the lowest of i, i + 1, .., i + count - 1 at which f is not zero, or i + count
 unfoldable pub firstFrom : (ℕ → ℕ) → ℕ → ℕ → ℕ

@@ -3,7 +3,7 @@
 use crate::region::bundle;
 use crate::region::role_at;
 use decoder::bundle::PLAIN;
-use decoder::place::target;
+use decoder::place::direct_target;
 use decoder::reading::Kind;
 use decoder::reading::Reading;
 use rules::layout::Layout;
@@ -56,7 +56,7 @@ fn word_fault(
     let words = ledger.len();
     let address = layout.code_start + (4 * (first + k)) as u32;
     let slot = (k % 4) as u32;
-    let j = landing(layout, words, target(word, address));
+    let j = landing(layout, words, direct_target(word, address));
     if j < words {
         let role = role_from(ledger, bytes, first, j);
         return fault(layout, words, before, word, next, slot, address, role);

@@ -2,14 +2,14 @@
 use crate::region::bundle;
 use crate::region::reading_at;
 use decoder::bundle::roles;
-use decoder::place::target;
+use decoder::place::direct_target;
 use rules::layout::Layout;
 use rules::rule::landing;
 ghost use mathlib.Core.Path.{_≡_};
 ghost use Prim.Native.Nat.{_+_, _*_, _/_, _%_, _^_, _≤_, _<_};
 ghost use lib.ListN.{length, getD, set};
 ghost use Rattle.checker.specs.Standing.{landingAt, Stands};
-ghost use Rattle.checker.specs.Ledger.{Cleared, RolesWritten, Raised, Added};
+ghost use Rattle.checker.specs.Ledger.{Cleared, RolesWritten, Raised, Added, Lowered, Taken};
 
 pub(crate) fn clear(ledger: &mut [u32])
     ensures { λ _. ⌜ Cleared (now (ledger .entry)) (now (ledger .exit)) ⌝ }
@@ -68,7 +68,7 @@ pub(crate) fn landing_at(
     ensures { λ r. ⌜ r ≡ landingAt layout words (now (bytes .entry)) first k ⌝ }
 {
     let address = layout.code_start + (4 * (first + k)) as u32;
-    landing(layout, words, target(reading_at(bytes, k), address))
+    landing(layout, words, direct_target(reading_at(bytes, k), address))
 }
 
 // One landing more on word j, if there is one. False where its count is the number of words.
@@ -104,6 +104,44 @@ pub(crate) fn add_landings(
     while k < asked {
         let j = landing_at(layout, words, bytes, first, k);
         if !raise(ledger, j) {
+            return k;
+        }
+        k += 1;
+    }
+    k
+}
+
+// One landing less on word j, if there is one. False where its count is 0.
+fn lower(ledger: &mut [u32], j: usize) -> bool
+    ensures { λ r. ⌜ Lowered j (now (ledger .entry)) (now (ledger .exit)) r ⌝ }
+{
+    if ledger.len() <= j {
+        return true;
+    }
+    let entry = ledger[j];
+    if entry < 4 {
+        return false;
+    }
+    ledger[j] = entry - 4;
+    true
+}
+
+// The landings of the first words of the bytes are taken off, up to one that finds no count.
+pub(crate) fn take_landings(
+    layout: Layout,
+    ledger: &mut [u32],
+    bytes: &[u8],
+    first: usize,
+    asked: usize,
+) -> usize
+    requires { ⌜ (Stands layout (length (now ledger)) (now bytes) first) × (asked ≤ length (now bytes) / 4) ⌝ }
+    ensures { λ r. ⌜ Taken layout (now (bytes .entry)) first asked (now (ledger .entry)) (now (ledger .exit)) r ⌝ }
+{
+    let words = ledger.len();
+    let mut k: usize = 0;
+    while k < asked {
+        let j = landing_at(layout, words, bytes, first, k);
+        if !lower(ledger, j) {
             return k;
         }
         k += 1;

@@ -6,4 +6,5 @@
 pub mod check;
 mod fault;
 mod ledger;
+mod patch;
 mod region;

@@ -12,8 +12,8 @@ use Rattle.decoder.proofs.bundle.reading.Kinds as reading-kinds
 use Rattle.decoder.proofs.bundle.reading.Reads as reading
 use Rattle.decoder.proofs.bundle.roles.Kinds as roles-kinds
 use Rattle.decoder.proofs.bundle.roles.Reads as roles
-use Rattle.decoder.proofs.place.target.Kinds as target-kinds
-use Rattle.decoder.proofs.place.target.Reads as target
+use Rattle.decoder.proofs.place.direct_target.Kinds as direct-target-kinds
+use Rattle.decoder.proofs.place.direct_target.Reads as direct-target
 use Rattle.decoder.proofs.place.literal.Kinds as literal-kinds
 use Rattle.decoder.proofs.place.literal.Reads as literal
 use Rattle.decoder.proofs.immediate.value.Kinds as value-kinds
@@ -67,8 +67,8 @@ reading-unique a u v x y p q = p ∙ sym q
 pub roles-unique : Unique roles-kinds.ps roles-kinds.r roles.Post
 roles-unique a u v x y p q = p ∙ sym q
 
-pub target-unique : Unique target-kinds.ps target-kinds.r target.Post
-target-unique a u v x y p q = p ∙ sym q
+pub direct-target-unique : Unique direct-target-kinds.ps direct-target-kinds.r direct-target.Post
+direct-target-unique a u v x y p q = p ∙ sym q
 
 pub literal-unique : Unique literal-kinds.ps literal-kinds.r literal.Post
 literal-unique a u v x y p q = p ∙ sym q

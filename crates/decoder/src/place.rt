@@ -34,7 +34,7 @@ fn signed_step(from: u64, offset: u64) -> Place
 }
 
 // The direct target of a word at an address. A word that is not a branch has none.
-pub fn target(reading: Reading, address: u32) -> Place
+pub fn direct_target(reading: Reading, address: u32) -> Place
     ensures { λ r. ⌜ r ≡ targetOf (reading .kind) address ⌝ }
 {
     let kind = reading.kind;

@@ -9,8 +9,8 @@ use decoder::pair::closes;
 use decoder::pair::mask_guards;
 use decoder::pair::test_guards;
 use decoder::place::Place;
+use decoder::place::direct_target;
 use decoder::place::literal;
-use decoder::place::target;
 use decoder::question::NO_REGISTER;
 use decoder::question::SP;
 use decoder::question::base;
@@ -204,7 +204,7 @@ pub fn fault(
     if rule10(layout, words, literal(word, address)) {
         return 10;
     }
-    if rule11(layout, words, target(word, address), role) {
+    if rule11(layout, words, direct_target(word, address), role) {
         return 11;
     }
     0

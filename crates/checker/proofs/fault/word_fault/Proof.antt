@@ -26,8 +26,8 @@ add-address-2 c = search needs
 cast-slot : tie.Need-cast-slot
 cast-slot c = search needs
 
-target-requires : tie.Need-target-requires
-target-requires c κs = search needs
+direct-target-requires : tie.Need-direct-target-requires
+direct-target-requires c κs = search needs
 
 landing-requires : tie.Need-landing-requires
 landing-requires c κs = search needs
@@ -48,7 +48,7 @@ returns c =
     ∙ ap (faultOf (a .layout) n (a .before) (a .word) (a .next) (a .k % 4) at)
     (c .before .role-from .ensures
     ∙ role-inside (a .layout) n (roleFrom (a .ledger .now) (a .bytes .now) (a .first)) (targetOf (a .word .kind) at) (j .result)
-    (j .ensures ∙ ap (landingOf (a .layout) n) (c .before .before .before .before .target .ensures))
+    (j .ensures ∙ ap (landingOf (a .layout) n) (c .before .before .before .before .direct-target .ensures))
     (c .before .before .if1 .taken))
 
 fault-requires-2 : tie.Need-fault-requires-2
@@ -63,7 +63,7 @@ returns-2 c =
     c .fault2 .ensures
     ∙ ap (faultOf (a .layout) n (a .before) (a .word) (a .next) (a .k % 4) at)
     (role-outside (a .layout) n (roleFrom (a .ledger .now) (a .bytes .now) (a .first)) (targetOf (a .word .kind) at) (j .result)
-    (j .ensures ∙ ap (landingOf (a .layout) n) (c .before .before .before .target .ensures))
+    (j .ensures ∙ ap (landingOf (a .layout) n) (c .before .before .before .direct-target .ensures))
     (c .before .if1 .left))
 
 pub word-fault-spec : {M : Type 1} → statement M
@@ -75,7 +75,7 @@ word-fault-spec =
     cast-address
     add-address-2
     cast-slot
-    target-requires
+    direct-target-requires
     landing-requires
     role-from-requires
     fault-requires

@@ -25,8 +25,8 @@ add-address-2 c = search needs
 reading-at-requires : tie.Need-reading-at-requires
 reading-at-requires c κs = search needs
 
-target-requires : tie.Need-target-requires
-target-requires c κs = search needs
+direct-target-requires : tie.Need-direct-target-requires
+direct-target-requires c κs = search needs
 
 landing-requires : tie.Need-landing-requires
 landing-requires c κs = search needs
@@ -37,7 +37,7 @@ returns c =
     let a = c .before .before .before .before .before .args in
     c .landing .ensures
     ∙ ap (landingOf (a .layout) (a .words))
-    (c .before .target .ensures ∙ ap (λ (r : Reading). targetOf (r .kind) (addressOf (a .layout) (a .first + a .k))) (c .before .before .reading-at .ensures))
+    (c .before .direct-target .ensures ∙ ap (λ (r : Reading). targetOf (r .kind) (addressOf (a .layout) (a .first + a .k))) (c .before .before .reading-at .ensures))
 
 pub landing-at-spec : {M : Type 1} → statement M
 landing-at-spec =
@@ -48,6 +48,6 @@ landing-at-spec =
     cast-address
     add-address-2
     reading-at-requires
-    target-requires
+    direct-target-requires
     landing-requires
     returns)

@@ -33,7 +33,7 @@ same-length : tie.Need-same-length
 same-length c = search needs
 
 returns-3 : tie.Need-returns-3
-returns-3 c = raised-one _ _ (c .before .before .if1 .left)
+returns-3 c = raised-one _ _ (c .before .before .if1 .left) (c .if2 .left)
 
 pub raise-spec : {M : Type 1} → statement M
 raise-spec =

@@ -33,7 +33,7 @@ rule10-kept : (c : tie.Else7) → rule10 (c .before .before .before .before .bef
 rule10-kept c = ap (rule10 (c .before .before .before .before .before .before .before .before .before .before .before .before .before .before .before .args .layout) (c .before .before .before .before .before .before .before .before .before .before .before .before .before .before .before .args .words)) (sym (c .before .before .literal .ensures)) ∙ sym (c .before .rule10 .ensures) ∙ c .if7 .left
 
 rule11-kept : (c : tie.Else8) → rule11 (c .before .before .before .before .before .before .before .before .before .before .before .before .before .before .before .before .before .before .args .layout) (c .before .before .before .before .before .before .before .before .before .before .before .before .before .before .before .before .before .before .args .words) (targetOf (c .before .before .before .before .before .before .before .before .before .before .before .before .before .before .before .before .before .before .args .word .kind) (c .before .before .before .before .before .before .before .before .before .before .before .before .before .before .before .before .before .before .args .address)) (c .before .before .before .before .before .before .before .before .before .before .before .before .before .before .before .before .before .before .args .role) ≡ false
-rule11-kept c = ap (λ (p : Place). rule11 (c .before .before .before .before .before .before .before .before .before .before .before .before .before .before .before .before .before .before .args .layout) (c .before .before .before .before .before .before .before .before .before .before .before .before .before .before .before .before .before .before .args .words) p (c .before .before .before .before .before .before .before .before .before .before .before .before .before .before .before .before .before .before .args .role)) (sym (c .before .before .target .ensures)) ∙ sym (c .before .rule11 .ensures) ∙ c .if8 .left
+rule11-kept c = ap (λ (p : Place). rule11 (c .before .before .before .before .before .before .before .before .before .before .before .before .before .before .before .before .before .before .args .layout) (c .before .before .before .before .before .before .before .before .before .before .before .before .before .before .before .before .before .before .args .words) p (c .before .before .before .before .before .before .before .before .before .before .before .before .before .before .before .before .before .before .args .role)) (sym (c .before .before .direct-target .ensures)) ∙ sym (c .before .rule11 .ensures) ∙ c .if8 .left
 
 rule4-requires : tie.Need-rule4-requires
 rule4-requires c κs = search needs
@@ -114,8 +114,8 @@ returns-7 c =
     let c4 = c5 .before .before in
     simp (rule4-kept c4, rule5-kept c5, rule6-kept c6, rule7-kept c7, rule8-kept c8, rule9-kept c9, ap (rule10 (c .before .before .before .before .before .before .before .before .before .before .before .before .before .before .before .args .layout) (c .before .before .before .before .before .before .before .before .before .before .before .before .before .before .before .args .words)) (sym (c .before .before .literal .ensures)) ∙ sym (c .before .rule10 .ensures) ∙ c .if7 .taken)
 
-target-requires : tie.Need-target-requires
-target-requires c κs = search needs
+direct-target-requires : tie.Need-direct-target-requires
+direct-target-requires c κs = search needs
 
 rule11-requires : tie.Need-rule11-requires
 rule11-requires c κs = search needs
@@ -130,7 +130,7 @@ returns-8 c =
     let c6 = c7 .before .before in
     let c5 = c6 .before .before in
     let c4 = c5 .before .before in
-    simp (rule4-kept c4, rule5-kept c5, rule6-kept c6, rule7-kept c7, rule8-kept c8, rule9-kept c9, rule10-kept c10, ap (λ (p : Place). rule11 (c .before .before .before .before .before .before .before .before .before .before .before .before .before .before .before .before .before .before .args .layout) (c .before .before .before .before .before .before .before .before .before .before .before .before .before .before .before .before .before .before .args .words) p (c .before .before .before .before .before .before .before .before .before .before .before .before .before .before .before .before .before .before .args .role)) (sym (c .before .before .target .ensures)) ∙ sym (c .before .rule11 .ensures) ∙ c .if8 .taken)
+    simp (rule4-kept c4, rule5-kept c5, rule6-kept c6, rule7-kept c7, rule8-kept c8, rule9-kept c9, rule10-kept c10, ap (λ (p : Place). rule11 (c .before .before .before .before .before .before .before .before .before .before .before .before .before .before .before .before .before .before .args .layout) (c .before .before .before .before .before .before .before .before .before .before .before .before .before .before .before .before .before .before .args .words) p (c .before .before .before .before .before .before .before .before .before .before .before .before .before .before .before .before .before .before .args .role)) (sym (c .before .before .direct-target .ensures)) ∙ sym (c .before .rule11 .ensures) ∙ c .if8 .taken)
 
 returns-9 : tie.Need-returns-9
 unfolding faultOf rulesOf lowestFrom
@@ -163,7 +163,7 @@ fault-spec =
     literal-requires
     rule10-requires
     returns-7
-    target-requires
+    direct-target-requires
     rule11-requires
     returns-8
     returns-9)

@@ -1,0 +1,66 @@
+-- `patch::copy` meets its contract. The invariant: the bytes passed are the new ones.
+use Prim.Native.Nat.{ℕ, _+_, _-_, _*_, _/_, _≤_, _<_}
+use native.Mathlib.Omega.{arith}
+use mathlib.Core.Path.{_≡_, _∙_, refl}
+use lib.ListN.{length, getD, set, length-set}
+use lib.Seq.{getD-set-same, getD-set-other, ext-getD}
+use borrow.Author.Count.{below-more}
+use Rattle.checker.proofs.patch.copy.Statement.{statement}
+use Rattle.checker.proofs.patch.copy.Tie as tie
+
+abbrev Inv-loop : tie.InvT-loop
+Inv-loop old₀ new i₀ old i = (i ≤ length old₀) × (length old ≡ length old₀) × ((t : ℕ) → t < i → getD old t 0 ≡ getD new t 0)
+
+abbrev μ-loop : tie.MeasureT-loop
+μ-loop old₀ new i₀ old i = length old₀ - i
+
+loop-holds : tie.Need-loop-holds Inv-loop μ-loop
+loop-holds c = (omega arith, refl, λ t h. absurd (omega arith))
+
+shared-slice-read-old : tie.Need-shared-slice-read-old Inv-loop μ-loop
+shared-slice-read-old c = let same = c .before .before .before .pre in omega arith
+
+slice-write-old : tie.Need-slice-write-old Inv-loop μ-loop
+slice-write-old c = omega arith
+
+add-i : tie.Need-add-i Inv-loop μ-loop
+add-i c = omega arith
+
+loop-less : tie.Need-loop-less Inv-loop μ-loop
+loop-less c = omega arith
+
+loop-again : tie.Need-loop-again Inv-loop μ-loop
+loop-again c =
+    let at = c .before .before in
+    let l = at .loop .old in
+    let i = at .loop .i in
+    let new = c .before .before .before .args .new .now in (
+      omega arith,
+      length-set l i (getD new i 0) ∙ at .loop .inv .1,
+      below-more _ i (λ t h. getD-set-other l i t (getD new i 0) 0 (λ e. omega arith) ∙ at .loop .inv .2 t h) (getD-set-same l i (getD new i 0) 0 (c .before .loop-test .taken)),
+    )
+
+same-length : tie.Need-same-length Inv-loop μ-loop
+same-length c = c .before .loop .inv .1
+
+returns : tie.Need-returns Inv-loop μ-loop
+returns c =
+    let at = c .before in
+    let a = c .before .before .args in
+    let same = c .before .before .pre in
+    ext-getD 0 (at .loop .old) (a .new .now) (at .loop .inv .1 ∙ same) (λ t h. at .loop .inv .2 t (omega arith))
+
+pub copy-spec : {M : Type 1} → statement M
+copy-spec =
+    tie.close
+    (tie.spec
+    Inv-loop
+    μ-loop
+    loop-holds
+    shared-slice-read-old
+    slice-write-old
+    add-i
+    loop-less
+    loop-again
+    same-length
+    returns)

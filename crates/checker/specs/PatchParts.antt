@@ -1,0 +1,29 @@
+-- What the parts of the patch call ask and promise.
+use Prim.Native.Nat.{ℕ, _+_, _/_}
+use mathlib.Core.Path.{_≡_}
+use mathlib.Core.Bool.{Bool, true, false, _&&_}
+use mathlib.Core.List.{List}
+use lib.ListN.{length, getD}
+use Rattle.rules.specs.declared.layout.Layout.{Layout}
+use Rattle.checker.specs.Lists.{firstFrom}
+use Rattle.checker.specs.Standing.{Stands}
+use Rattle.checker.specs.Check.{wordsOf}
+use Rattle.checker.specs.Ledger.{Swapped}
+use Rattle.checker.specs.Patch.{oldCounted, countLess, newFit, strandedAt}
+
+-- the count of word j
+abbrev pub countAt : List ℕ → ℕ → ℕ
+countAt ledger j = getD ledger j 0 / 4
+
+-- old and new bundles, as many, at the same place
+pub record BothStand (l : Layout) (n : ℕ) (old new : List ℕ) (first : ℕ) : Type 0 where
+  pub old′ : Stands l n old first
+  pub new′ : Stands l n new first
+  pub same : length old ≡ length new
+
+-- the branches are exchanged where 13 does not forbid it, and else nothing is changed; strand is the first new word at fault by 14
+pub record Exchanges (l : Layout) (old new : List ℕ) (first : ℕ) (before after : List ℕ) (ok : Bool) (strand : ℕ) : Type 0 where
+  pub answer : ok ≡ (oldCounted l before old first && newFit l before old new first)
+  pub yes′ : ok ≡ true → Swapped l old new first before after
+  pub place : ok ≡ true → strand ≡ firstFrom (strandedAt (countLess l before old first) new first) 0 (wordsOf new)
+  pub no′ : ok ≡ false → after ≡ before

@@ -1,0 +1,42 @@
+-- `place::direct_target` meets its contract: a word that is not a branch has no target.
+use borrow.Author.Needs.{needs}
+use mathlib.Core.Path.{_∙_, sym, ap}
+use Rattle.decoder.specs.Bits.{bits}
+use Rattle.decoder.specs.Place.{signedStep, targetOf}
+use Rattle.decoder.specs.declared.reading.Kind.{Kind}
+use Rattle.decoder.specs.declared.place.Place.the-variants.{Absent}
+use Rattle.decoder.proofs.Others.{other-branch}
+use Prim.Native.Nat.{_+_}
+use Rattle.decoder.proofs.place.direct_target.Statement.{statement}
+use Rattle.decoder.proofs.place.direct_target.Tie as tie
+
+enum-known-kind : tie.Need-enum-known-kind
+enum-known-kind c = search needs
+
+returns : tie.Need-returns
+unfolding targetOf
+returns c = other-branch (λ call offset. signedStep (c .before .args .address + 8) (bits offset 23 0)) Absent (c .before .args .reading .kind) (c .match .keys2)
+
+add-signed-step : tie.Need-add-signed-step
+add-signed-step c = search needs
+
+cast-signed-step : tie.Need-cast-signed-step
+cast-signed-step c = search needs
+
+signed-step-requires : tie.Need-signed-step-requires
+signed-step-requires c κs = search needs
+
+returns-2 : tie.Need-returns-2
+unfolding targetOf
+returns-2 c = c .signed-step .ensures ∙ sym (ap (λ (k : Kind). targetOf k (c .before .before .before .before .args .address)) (c .before .before .kind .given .1))
+
+pub direct-target-spec : {M : Type 1} → statement M
+direct-target-spec =
+    tie.close
+    (tie.spec
+    enum-known-kind
+    returns
+    add-signed-step
+    cast-signed-step
+    signed-step-requires
+    returns-2)
