@@ -6,6 +6,9 @@ pub mod Lists
 pub mod Ledgers
 pub mod Taking
 pub mod Moving
+pub mod Exchange
+pub mod Undo
+pub mod Patches
 pub mod Checks
 pub mod Outcomes
 pub mod Inner

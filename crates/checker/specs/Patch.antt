@@ -76,13 +76,16 @@ module _ (l : Layout) (ledger : List ℕ) (first : ℕ) (old new : List ℕ) whe
   unfoldable pub movedLedger : List ℕ
   movedLedger = listOf movedEntry (length ledger)
 
+  -- 13; then the new words
+  unfoldable pub bundlesVerdict : Verdict
+  bundlesVerdict = cond (not agrees) (refused 13) newWordsVerdict
+
 -- Order: 1, 2, 12, 13; then the new words. The first word that the patch replaces is a quarter of the offset
 unfoldable pub patchVerdict : Layout → List ℕ → ℕ → List ℕ → List ℕ → Verdict
 patchVerdict l ledger offset old new =
     cond (not (layoutHolds l (4 * length ledger))) (refused 1)
     (cond (not (lengthHolds (4 * length ledger))) (refused 2)
-    (cond (not (shapeHolds (length ledger) offset old new)) (refused 12)
-    (cond (not (agrees l ledger (offset / 4) old new)) (refused 13) (newWordsVerdict l ledger (offset / 4) old new))))
+    (cond (not (shapeHolds (length ledger) offset old new)) (refused 12) (bundlesVerdict l ledger (offset / 4) old new)))
 
 -- what the patch promises: the verdict, every entry of the ledger and every byte of the old bundles afterwards
 pub record Patched (l : Layout) (ledger : List ℕ) (offset : ℕ) (old new after oldAfter : List ℕ) (r : Outcome) : Type 0 where

@@ -6,5 +6,5 @@
 pub mod check;
 mod fault;
 mod ledger;
-mod patch;
+pub mod patch;
 mod region;

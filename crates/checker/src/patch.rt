@@ -15,13 +15,14 @@ use rules::outcome::Reason;
 use rules::rule::landable;
 ghost use mathlib.Core.Path.{_≡_};
 ghost use mathlib.Core.Bool.{true, _&&_};
-ghost use Prim.Native.Nat.{ℕ, _+_, _*_, _/_, _%_, _≤_, _<_};
+ghost use Prim.Native.Nat.{ℕ, _+_, _*_, _/_, _%_, _^_, _≤_, _<_};
 ghost use lib.ListN.{length, getD};
+ghost use Rattle.rules.specs.Layout.{addressOf};
 ghost use Rattle.checker.specs.Lists.{firstFrom};
 ghost use Rattle.checker.specs.Standing.{landings, Stands};
 ghost use Rattle.checker.specs.Ledger.{Within, TakenAll, AddedAll, Swapped};
-ghost use Rattle.checker.specs.Patch.{countsHold, rolesAgree, strandedAt};
-ghost use Rattle.checker.specs.PatchParts.{countAt, Exchanges, BothStand};
+ghost use Rattle.checker.specs.Patch.{countsHold, rolesAgree, strandedAt, shapeHolds, Patched};
+ghost use Rattle.checker.specs.PatchParts.{countAt, Exchanges, BothStand, PatchedWords};
 
 // All the landings of the bytes are taken off; where a count would fall below 0, nothing is changed.
 fn take_all(layout: Layout, ledger: &mut [u32], bytes: &[u8], first: usize) -> bool
@@ -113,4 +114,118 @@ fn copy(old: &mut [u8], new: &[u8])
         old[i] = new[i];
         i += 1;
     }
+}
+
+// Whether the branches were exchanged, and the first new word at fault by 14.
+struct Exchanged {
+    ok: bool,
+    strand: usize,
+}
+
+// The old bundles' branches off and the new ones' on; where 13 forbids it, nothing is changed.
+fn exchange(layout: Layout, ledger: &mut [u32], old: &[u8], new: &[u8], first: usize) -> Exchanged
+    requires { ⌜ (BothStand layout (length (now ledger)) (now old) (now new) first) × (Within (now ledger)) ⌝ }
+    ensures { λ r. ⌜ Exchanges layout (now (old .entry)) (now (new .entry)) first (now (ledger .entry)) (now (ledger .exit)) (r .ok) (r .strand) ⌝ }
+{
+    if !take_all(layout, ledger, old, first) {
+        return Exchanged {
+            ok: false,
+            strand: 0,
+        };
+    }
+    let strand = first_stranded(ledger, new, first);
+    if add_all(layout, ledger, new, first) {
+        return Exchanged { ok: true, strand };
+    }
+    add_all(layout, ledger, old, first);
+    Exchanged { ok: false, strand }
+}
+
+// The address of word j.
+fn address(layout: Layout, ledger: &[u32], j: usize) -> u32
+    requires { ⌜ (layout .«code_start» + 4 * length (now ledger) ≤ 1_073_741_824) × (j < length (now ledger)) ⌝ }
+    ensures { λ r. ⌜ r ≡ addressOf layout j ⌝ }
+{
+    layout.code_start + (4 * j) as u32
+}
+
+// The patch of bundles that stand in the region: 13, then the new words.
+fn patch_words(
+    layout: Layout,
+    ledger: &mut [u32],
+    old: &mut [u8],
+    new: &[u8],
+    first: usize,
+) -> Outcome
+    requires { ⌜ BothStand layout (length (now ledger)) (now old) (now new) first ⌝ }
+    ensures { λ r. ⌜ PatchedWords layout (now (ledger .entry)) first (now (old .entry)) (now (new .entry)) (now (ledger .exit)) (now (old .exit)) r ⌝ }
+{
+    if !counts_hold(ledger) {
+        return Outcome::Refused(Reason::Disagreement);
+    }
+    if !roles_agree(ledger, old, first) {
+        return Outcome::Refused(Reason::Disagreement);
+    }
+    let found = first_fault(layout, ledger, new, first);
+    let exchanged = exchange(layout, ledger, old, new, first);
+    if !exchanged.ok {
+        return Outcome::Refused(Reason::Disagreement);
+    }
+    let number = found.number;
+    if number != 0 {
+        exchange(layout, ledger, new, old, first);
+        let at = address(layout, ledger, first + found.at);
+        return Outcome::Refused(reason(number, at));
+    }
+    let strand = exchanged.strand;
+    if strand < new.len() / 4 {
+        exchange(layout, ledger, new, old, first);
+        let at = address(layout, ledger, first + strand);
+        return Outcome::Refused(Reason::Stranded { at });
+    }
+    write_roles(layout, ledger, new, first);
+    copy(old, new);
+    Outcome::Accepted
+}
+
+// 12 does not hold.
+fn shape_holds(words: usize, offset: usize, old: &[u8], new: &[u8]) -> bool
+    requires { ⌜ words * 4 < 2 ^ 63 ⌝ }
+    ensures { λ r. ⌜ r ≡ shapeHolds words offset (now (old .entry)) (now (new .entry)) ⌝ }
+{
+    let length = 4 * words;
+    let size = new.len();
+    if length < size {
+        return false;
+    }
+    !(size == 0)
+        & (size % 16 == 0)
+        & (size == old.len())
+        & (offset % 16 == 0)
+        & (offset <= length - size)
+}
+
+// Accepts the patch exactly where the region, edited, meets the rules and no branch outside it is
+// stranded; then the old bytes are the new ones and the ledger has moved. A refusal changes nothing.
+pub fn patch(
+    layout: Layout,
+    ledger: &mut [u32],
+    offset: usize,
+    old: &mut [u8],
+    new: &[u8],
+) -> Outcome
+    ensures { λ r. ⌜ Patched layout (now (ledger .entry)) offset (now (old .entry)) (now (new .entry)) (now (ledger .exit)) (now (old .exit)) r ⌝ }
+{
+    let words = ledger.len();
+    let length = 4 * words;
+    if !layout_holds(layout, length) {
+        return Outcome::Refused(Reason::Layout);
+    }
+    if !length_holds(length) {
+        return Outcome::Refused(Reason::CodeLength);
+    }
+    if !shape_holds(words, offset, old, new) {
+        return Outcome::Refused(Reason::PatchShape);
+    }
+    patch_words(layout, ledger, old, new, offset / 4)
 }

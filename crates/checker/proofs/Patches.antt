@@ -1,0 +1,228 @@
+-- The patch, on plain values: each of its answers is the one that the definition gives.
+use Prim.Native.Nat.{ℕ, _+_, _-_, _*_, _/_, _%_, _≤_, _<_}
+use native.Mathlib.Nat.{zero-add}
+use native.Mathlib.Omega.{arith}
+use mathlib.Core.Path.{_≡_, _∙_, refl, sym, ap, ap₂, subst}
+use mathlib.Core.Bool.{Bool, true, false, not, _&&_, cond}
+use mathlib.Core.List.{List}
+use lib.Dec.{eqb, ltb, leb}
+use lib.ListN.{length, getD}
+use borrow.Author.Tests.{eqb-true, lt-ltb, le-ltb, le-leb, lt-leb, leb-true}
+use Rattle.decoder.proofs.Bools.{both}
+use Rattle.rules.specs.declared.layout.Layout.{Layout}
+use Rattle.rules.specs.declared.outcome.Reason.{Reason}
+use Rattle.rules.specs.declared.outcome.Outcome.{Outcome}
+use Rattle.rules.specs.declared.outcome.Reason.the-variants.{Layout as LayoutBroken, CodeLength, PatchShape, Disagreement, Stranded}
+use Rattle.rules.specs.declared.outcome.Outcome.the-variants.{Accepted, Refused}
+use Rattle.rules.specs.Layout.{layoutHolds, lengthHolds, addressOf}
+use Rattle.rules.specs.Outcome.{Verdict, accepted, refused, refusedAt, reasonVerdict, verdictOf}
+use Rattle.rules.proofs.Says.{layout-ends}
+use Rattle.rules.proofs.Lowest.{lowest}
+use Rattle.checker.specs.Lists.{firstFrom, First}
+use Rattle.checker.specs.Region.{roleAt}
+use Rattle.checker.specs.Standing.{landings, faultAt, roleFrom, standingFault, Stands}
+use Rattle.checker.specs.Ledger.{RolesWritten, Within}
+use Rattle.checker.specs.Check.{wordsOf, ledgerAfter}
+use Rattle.checker.specs.Patch.{shapeHolds, countsHold, rolesAgree, oldCounted, countLess, newFit, strandedAt, agrees, strandedVerdict, newWordsVerdict, movedEntry, movedLedger, bundlesVerdict, patchVerdict, Patched}
+use Rattle.checker.specs.PatchParts.{Exchanges, BothStand, PatchedWords}
+use Rattle.checker.proofs.First.{first-value, first-end}
+use Rattle.checker.proofs.Lists.{list-is}
+use Rattle.checker.proofs.Ledgers.{split}
+use Rattle.checker.proofs.Undo.{count-after, off-counted}
+
+module _ (l : Layout) (ledger : List ℕ) (first : ℕ) (old new : List ℕ) where
+  abbrev verdict : Verdict
+  verdict = bundlesVerdict l ledger first old new
+
+  -- a refusal, with nothing changed
+  refused-so : (reason : Reason) → verdict ≡ reasonVerdict reason → ((a b : List ℕ) → ledgerAfter (reasonVerdict reason) a b ≡ b) → (after : List ℕ) → after ≡ ledger → PatchedWords l ledger first old new after old (Refused reason)
+  unfolding verdictOf
+  refused-so reason v keeps after same =
+      record {
+        verdict = sym v;
+        ledger′ = same ∙ sym (ap (λ (x : Verdict). ledgerAfter x (movedLedger l ledger first old new) ledger) v ∙ keeps _ _);
+        bytes = sym (ap (λ (x : Verdict). ledgerAfter x new old) v ∙ keeps _ _);
+      }
+
+  -- ---- 13
+
+  pub disagreed : agrees l ledger first old new ≡ false → PatchedWords l ledger first old new ledger old (Refused Disagreement)
+  unfolding bundlesVerdict reasonVerdict ledgerAfter
+  disagreed e = refused-so Disagreement (simp e) (λ a b. refl) ledger refl
+
+  pub counts-disagree : countsHold ledger ≡ false → agrees l ledger first old new ≡ false
+  unfolding agrees
+  counts-disagree e = simp e
+
+  module _ (counts : countsHold ledger ≡ true) where
+    pub roles-disagree : rolesAgree ledger old first ≡ false → agrees l ledger first old new ≡ false
+    unfolding agrees
+    roles-disagree e = simp (counts, e)
+
+    module _ (roles : rolesAgree ledger old first ≡ true) where
+      pub exchange-says : (oldCounted l ledger old first && newFit l ledger old new first) ≡ agrees l ledger first old new
+      unfolding agrees
+      exchange-says = sym (simp (counts, roles))
+
+  -- ---- the new words
+
+  module _ (agreed : agrees l ledger first old new ≡ true) (at number : ℕ) (found : First (standingFault l ledger new first) 0 (length new / 4) at number) where
+    by-words : verdict ≡ newWordsVerdict l ledger first old new
+    unfolding bundlesVerdict
+    by-words = simp agreed
+
+    module _ (n : number ≡ 0 → ⊥) where
+      value : (at < 0 + length new / 4) × (number ≡ standingFault l ledger new first at)
+      value = first-value (standingFault l ledger new first) 0 (length new / 4) at number found n
+
+      pub fault-inside : at < wordsOf new
+      fault-inside = let v = value .0 in omega arith
+
+      pub fault-range : (4 ≤ number) × (number ≤ 11)
+      unfolding standingFault faultAt
+      fault-range =
+          let e = value .1 in
+          let low = lowest l (length ledger) _ _ _ _ _ _ (λ z. n (e ∙ z)) in
+          subst (λ (x : ℕ). (4 ≤ x) × (x ≤ 11)) (sym e) (low .from-4, low .to-11)
+
+      pub faulty : (reason : Reason) (after : List ℕ) → reasonVerdict reason ≡ refusedAt number (addressOf l (first + at)) → after ≡ ledger → PatchedWords l ledger first old new after old (Refused reason)
+      unfolding newWordsVerdict ledgerAfter
+      faulty reason after e same =
+          let words : verdict ≡ refusedAt number (addressOf l (first + at)) =
+          by-words ∙ rw (← found .place) (simp (lt-ltb at (wordsOf new) fault-inside) (ap (λ (x : ℕ). refusedAt x (addressOf l (first + at))) (sym (value .1)))) in
+          refused-so reason (words ∙ sym e) (λ a b. ap (λ (x : Verdict). ledgerAfter x a b) e) after same
+
+    module _ (z : number ≡ 0) (strand : ℕ) (place : strand ≡ firstFrom (strandedAt (countLess l ledger old first) new first) 0 (wordsOf new)) where
+      by-strand : verdict ≡ strandedVerdict l ledger first old new
+      unfolding newWordsVerdict
+      by-strand =
+          let top : firstFrom (standingFault l ledger new first) 0 (wordsOf new) ≡ wordsOf new = first-end (standingFault l ledger new first) 0 (length new / 4) at number found z ∙ zero-add (wordsOf new) in
+          by-words ∙ rw top (simp (le-ltb (wordsOf new) (wordsOf new) (omega arith)))
+
+      pub stranded : (after : List ℕ) → strand < wordsOf new → after ≡ ledger → PatchedWords l ledger first old new after old (Refused (Stranded (addressOf l (first + strand))))
+      unfolding strandedVerdict ledgerAfter reasonVerdict
+      stranded after h same =
+          refused-so (Stranded (addressOf l (first + strand))) (by-strand ∙ rw (← place) (simp (lt-ltb strand (wordsOf new) h))) (λ a b. refl) after same
+
+      pub patched : (after bytes : List ℕ) → wordsOf new ≤ strand → after ≡ movedLedger l ledger first old new → bytes ≡ new → PatchedWords l ledger first old new after bytes Accepted
+      unfolding strandedVerdict ledgerAfter verdictOf
+      patched after bytes h moved written =
+          let v : verdict ≡ accepted = by-strand ∙ rw (← place) (simp (le-ltb strand (wordsOf new) h)) in
+          record {
+            verdict = sym v;
+            ledger′ = moved ∙ sym (ap (λ (x : Verdict). ledgerAfter x (movedLedger l ledger first old new) ledger) v);
+            bytes = written ∙ sym (ap (λ (x : Verdict). ledgerAfter x new old) v);
+          }
+
+-- old and new bundles exchanged
+pub stand-exchanged : (l : Layout) (n m : ℕ) (old new : List ℕ) (first : ℕ) → m ≡ n → BothStand l n old new first → BothStand l m new old first
+stand-exchanged l n m old new first e s =
+    record {
+      old′ = subst (λ (x : ℕ). Stands l x new first) (sym e) (s .new′);
+      new′ = subst (λ (x : ℕ). Stands l x old first) (sym e) (s .old′);
+      same = sym (s .same);
+    }
+
+-- ---- the ledger
+
+role-kept : (a x o p : ℕ) → a + 4 * o ≡ x + 4 * p → a % 4 ≡ x % 4
+role-kept a x o p h = omega arith
+
+made-of : (a c r : ℕ) → a / 4 ≡ c → a % 4 ≡ r → a ≡ 4 * c + r
+made-of a c r h k = omega arith
+
+quarters : (a c r s : ℕ) → a / 4 ≡ c → r ≡ s → a / 4 * 4 + r ≡ 4 * c + s
+quarters a c r s h k = omega arith
+
+module _ (l : Layout) (ledger : List ℕ) (first : ℕ) (old new mid after : List ℕ) (strand : ℕ)
+    (inside : first + length new / 4 ≤ length ledger) (m-length : length mid ≡ length ledger) (a-length : length after ≡ length mid)
+    (w : Within ledger) (x : Exchanges l old new first ledger mid true strand) (written : RolesWritten new first 0 (length new / 4) mid after) where
+  count : (i : ℕ) → i < length ledger → getD mid i 0 / 4 ≡ countLess l ledger old first i + landings l (length ledger) new first (wordsOf new) i
+  unfolding countLess
+  count i h = count-after l old new first ledger mid m-length strand w x i h
+
+  role-in : (k : ℕ) → k < wordsOf new → roleAt new k ≡ roleFrom ledger new first (first + k)
+  unfolding roleFrom
+  role-in k h = sym (simp (le-leb first (first + k) (omega arith), lt-ltb (first + k) (first + length new / 4) (omega arith)) (ap (roleAt new) (minus first k)))
+    where
+      minus : (a b : ℕ) → a + b - a ≡ b
+      minus a b = omega arith
+
+  role-below : (i : ℕ) → i < first → getD ledger i 0 % 4 ≡ roleFrom ledger new first i
+  unfolding roleFrom
+  role-below i h = sym (simp (lt-leb first i h))
+
+  role-above : (i : ℕ) → first + length new / 4 ≤ i → getD ledger i 0 % 4 ≡ roleFrom ledger new first i
+  unfolding roleFrom
+  role-above i h = sym (simp (le-leb first i (omega arith), le-ltb i (first + length new / 4) h))
+
+  outside : (i : ℕ) → i < length ledger → getD after i 0 ≡ getD mid i 0 → getD ledger i 0 % 4 ≡ roleFrom ledger new first i → getD after i 0 ≡ movedEntry l ledger first old new i
+  unfolding movedEntry
+  outside i h same role =
+      same ∙ made-of (getD mid i 0) _ _ (count i h) (role-kept (getD mid i 0) (getD ledger i 0) _ _ (x .yes′ refl .moved i h) ∙ role)
+
+  within : (k : ℕ) → k < wordsOf new → getD after (first + k) 0 ≡ movedEntry l ledger first old new (first + k)
+  unfolding movedEntry
+  within k h = written .inside k (omega arith) h ∙ quarters (getD mid (first + k) 0) _ _ _ (count (first + k) (omega arith)) (role-in k h)
+
+  pub ledger-moved : after ≡ movedLedger l ledger first old new
+  unfolding movedLedger
+  ledger-moved =
+      list-is after _ (length ledger) (a-length ∙ m-length)
+      (λ i h.
+      split first i
+      (λ low.
+      split (first + length new / 4) i (λ high. outside i h (written .above i high) (role-above i high))
+      (λ high.
+      let e : first + (i - first) ≡ i = omega arith in
+      subst (λ (j : ℕ). getD after j 0 ≡ movedEntry l ledger first old new j) e (within (i - first) (omega arith))))
+      (λ high. outside i h (written .below i (omega arith)) (role-below i high)))
+
+-- ---- 1, 2, 12
+
+module _ (l : Layout) (ledger : List ℕ) (offset : ℕ) (old new : List ℕ) where
+  pub patched-1 : layoutHolds l (4 * length ledger) ≡ false → Patched l ledger offset old new ledger old (Refused LayoutBroken)
+  unfolding patchVerdict verdictOf reasonVerdict ledgerAfter
+  patched-1 e = record { verdict = sym (simp e); ledger′ = sym (simp e); bytes = sym (simp e) }
+
+  module _ (e1 : layoutHolds l (4 * length ledger) ≡ true) where
+    pub patched-2 : lengthHolds (4 * length ledger) ≡ false → Patched l ledger offset old new ledger old (Refused CodeLength)
+    unfolding patchVerdict verdictOf reasonVerdict ledgerAfter
+    patched-2 e = record { verdict = sym (simp (e1, e)); ledger′ = sym (simp (e1, e)); bytes = sym (simp (e1, e)) }
+
+    module _ (e2 : lengthHolds (4 * length ledger) ≡ true) where
+      pub patched-12 : shapeHolds (length ledger) offset old new ≡ false → Patched l ledger offset old new ledger old (Refused PatchShape)
+      unfolding patchVerdict verdictOf reasonVerdict ledgerAfter
+      patched-12 e = record { verdict = sym (simp (e1, e2, e)); ledger′ = sym (simp (e1, e2, e)); bytes = sym (simp (e1, e2, e)) }
+
+      module _ (e12 : shapeHolds (length ledger) offset old new ≡ true) where
+        pub both-stand : BothStand l (length ledger) old new (offset / 4)
+        unfolding shapeHolds
+        both-stand =
+            let a = not (eqb (length new) 0) in
+            let b = eqb (length new % 16) 0 in
+            let c = eqb (length new) (length old) in
+            let d = eqb (offset % 16) 0 in
+            let p = both (a && b && c && d) (leb (offset + length new) (4 * length ledger)) e12 in
+            let q = both (a && b && c) d (p .0) in
+            let r = both (a && b) c (q .0) in
+            let whole : length new % 16 ≡ 0 = eqb-true _ _ (both a b (r .0) .1) in
+            let same : length new ≡ length old = eqb-true _ _ (r .1) in
+            let off : offset % 16 ≡ 0 = eqb-true _ _ (q .1) in
+            let fits : offset + length new ≤ 4 * length ledger = leb-true _ _ (p .1) in
+            let end = layout-ends l (4 * length ledger) e1 in
+            record {
+              old′ = record { whole = subst (λ (x : ℕ). x % 16 ≡ 0) same whole; inside = omega arith; below = end };
+              new′ = record { whole = whole; inside = omega arith; below = end };
+              same = sym same;
+            }
+
+        pub patched-words : (after bytes : List ℕ) (r : Outcome) → PatchedWords l ledger (offset / 4) old new after bytes r → Patched l ledger offset old new after bytes r
+        unfolding patchVerdict
+        patched-words after bytes r p =
+            let v : patchVerdict l ledger offset old new ≡ bundlesVerdict l ledger (offset / 4) old new = simp (e1, e2, e12) in
+            record {
+              verdict = p .verdict ∙ sym v;
+              ledger′ = p .ledger′ ∙ sym (ap (λ (x : Verdict). ledgerAfter x (movedLedger l ledger (offset / 4) old new) ledger) v);
+              bytes = p .bytes ∙ sym (ap (λ (x : Verdict). ledgerAfter x new old) v);
+            }
