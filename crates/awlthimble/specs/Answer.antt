@@ -1,5 +1,5 @@
 -- An answer as one number, and what the C interface's calls promise.
-use Prim.Native.Nat.{ℕ, _+_, _*_, _^_}
+use Prim.Native.Nat.{ℕ, _+_, _*_, _/_, _^_}
 use mathlib.Core.Path.{_≡_}
 use mathlib.Core.Bool.{Bool}
 use mathlib.Core.List.{List}
@@ -7,6 +7,7 @@ use lib.ListN.{length}
 use Rattle.rules.specs.declared.layout.Layout.{Layout}
 use Rattle.rules.specs.Outcome.{Verdict, numberOf, placeOf}
 use Rattle.checker.specs.Check.{checkVerdict, ledgerOf, ledgerAfter}
+use Rattle.checker.specs.Patch.{patchVerdict, movedLedger}
 
 -- 0 where accepted; else the number in the low 32 bits and the address, 0 where there is none, in the high 32
 unfoldable pub packed : Verdict → ℕ
@@ -18,3 +19,8 @@ layoutOf start first end tests = record { «code_start» = start; «trampoline_f
 pub record CheckAnswered (l : Layout) (code before after : List ℕ) (r : ℕ) : Type 0 where
   pub answer : r ≡ packed (checkVerdict l code (length before))
   pub ledger : after ≡ ledgerAfter (checkVerdict l code (length before)) (ledgerOf l code) before
+
+pub record PatchAnswered (l : Layout) (ledger : List ℕ) (offset : ℕ) (old new after oldAfter : List ℕ) (r : ℕ) : Type 0 where
+  pub answer : r ≡ packed (patchVerdict l ledger offset old new)
+  pub ledger′ : after ≡ ledgerAfter (patchVerdict l ledger offset old new) (movedLedger l ledger (offset / 4) old new) ledger
+  pub bytes : oldAfter ≡ ledgerAfter (patchVerdict l ledger offset old new) new old

@@ -2,6 +2,7 @@
 // An answer is one number: 0 where accepted, else the refusal's number in the low 32 bits and its
 // address, 0 where it has none, in the high 32.
 use checker::check::check;
+use checker::patch::patch;
 use rules::layout::Layout;
 use rules::outcome::Outcome;
 use rules::outcome::address;
@@ -9,7 +10,7 @@ use rules::outcome::number;
 ghost use mathlib.Core.Path.{_≡_};
 ghost use lib.ListN.{length};
 ghost use Rattle.rules.specs.Outcome.{verdictOf};
-ghost use Rattle.awlthimble.specs.Answer.{packed, layoutOf, CheckAnswered};
+ghost use Rattle.awlthimble.specs.Answer.{packed, layoutOf, CheckAnswered, PatchAnswered};
 
 fn answer(outcome: Outcome) -> u64
     ensures { λ r. ⌜ r ≡ packed (verdictOf outcome) ⌝ }
@@ -45,4 +46,22 @@ pub extern "C" fn awl_check(
 {
     let layout = layout(code_start, trampoline_first, trampoline_end, test_pairs);
     answer(check(layout, code, ledger))
+}
+
+// The patch.
+#[no_mangle]
+pub extern "C" fn awl_patch(
+    code_start: u32,
+    trampoline_first: u32,
+    trampoline_end: u32,
+    test_pairs: bool,
+    ledger: &mut [u32],
+    offset: usize,
+    old_bundles: &mut [u8],
+    new_bundles: &[u8],
+) -> u64
+    ensures { λ r. ⌜ PatchAnswered (layoutOf «code_start» «trampoline_first» «trampoline_end» «test_pairs») (now (ledger .entry)) offset (now («old_bundles» .entry)) (now («new_bundles» .entry)) (now (ledger .exit)) (now («old_bundles» .exit)) r ⌝ }
+{
+    let layout = layout(code_start, trampoline_first, trampoline_end, test_pairs);
+    answer(patch(layout, ledger, offset, old_bundles, new_bundles))
 }
