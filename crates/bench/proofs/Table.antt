@@ -19,9 +19,10 @@ use Rattle.decoder.specs.Word.{isCompare, isMove, isData, operandOf, dataFields
 use Rattle.rules.specs.Layout.{sandboxEnd, codeLimit, layoutHolds, lengthHolds}
 use Rattle.rules.specs.Rule.{rule4, rule5, rule6, wantsGuard, rule7, rule8, rule9, literalHolds, rule10, wordAtAddress, landingOf, inTrampolines, landable, rule11, rulesOf, lowestFrom, faultOf}
 use Rattle.checker.specs.Check.{codeFault, wordsVerdict, checkVerdict, entryOf, ledgerOf}
-use Rattle.checker.specs.Lists.{sum, firstFrom, listFrom, listOf}
+use Rattle.checker.specs.Lists.{sum, all, firstFrom, listFrom, listOf}
+use Rattle.checker.specs.Patch.{shapeHolds, countsHold, rolesAgree, oldCounted, countLess, newFit, strandedAt, agrees, strandedVerdict, newWordsVerdict, bundlesVerdict, patchVerdict, movedEntry, movedLedger}
 use Rattle.checker.specs.Region.{wordAt, bundleWords, bundleAt, readingAt, beforeAt, nextAt, roleAt}
-use Rattle.checker.specs.Standing.{targetAt, landingAt, landings, targetRole, faultAt}
+use Rattle.checker.specs.Standing.{targetAt, landingAt, landings, targetRole, faultAt, roleFrom, standingFault}
 
 abbrev N : ℕ
 N = 0xE320_F000
@@ -38,6 +39,9 @@ bytes (w ∷ ws) = w % 256 ∷ w / 256 % 256 ∷ w / 65536 % 256 ∷ w / 1677721
 pub data Row : Type 0 where
   takes : Bool → List ℕ → List ℕ → Row
   refuses : Bool → List ℕ → ℕ → ℕ → Row
+  -- a ledger, the offset, the old and the new words; and the ledger afterwards, or the refusal
+  patches : List ℕ → ℕ → List ℕ → List ℕ → List ℕ → Row
+  holds-back : List ℕ → ℕ → List ℕ → List ℕ → ℕ → ℕ → Row
 
 -- ---- the test of a row
 
@@ -81,6 +85,10 @@ right : Row → Bool
 right (takes tests ws ledger) =
     same-verdict (checkVerdict (bench tests) (bytes ws) (length ws)) accepted && same-list (ledgerOf (bench tests) (bytes ws)) ledger
 right (refuses tests ws number at) = same-verdict (checkVerdict (bench tests) (bytes ws) (length ws)) (refusedAt number at)
+right (patches ledger offset old new after) =
+    same-verdict (patchVerdict (bench true) ledger offset (bytes old) (bytes new)) accepted
+    && same-list (movedLedger (bench true) ledger (offset / 4) (bytes old) (bytes new)) after
+right (holds-back ledger offset old new number at) = same-verdict (patchVerdict (bench true) ledger offset (bytes old) (bytes new)) (refusedAt number at)
 
 every : List Row → Bool
 every [] = true
@@ -109,10 +117,13 @@ table =
     ∷ refuses true (0xE59F_0008 ∷ N ∷ N ∷ N ∷ []) 10 131072
     ∷ refuses true (0xE59F_0006 ∷ N ∷ N ∷ N ∷ []) 10 131072
     ∷ takes true (N ∷ N ∷ N ∷ 0xEA00_0000 ∷ N ∷ N ∷ N ∷ N ∷ []) (0 ∷ 0 ∷ 0 ∷ 0 ∷ 0 ∷ 4 ∷ 0 ∷ 0 ∷ [])
+    ∷ holds-back (0 ∷ 0 ∷ 0 ∷ 0 ∷ 0 ∷ 4 ∷ 0 ∷ 0 ∷ []) 16 (N ∷ N ∷ N ∷ N ∷ []) (0xE3C0_0103 ∷ 0xE580_1000 ∷ N ∷ N ∷ []) 14 131092
+    ∷ patches (0 ∷ 0 ∷ 0 ∷ 0 ∷ 0 ∷ 4 ∷ 0 ∷ 0 ∷ []) 0 (N ∷ N ∷ N ∷ 0xEA00_0000 ∷ []) (N ∷ N ∷ N ∷ N ∷ []) (0 ∷ 0 ∷ 0 ∷ 0 ∷ 0 ∷ 0 ∷ 0 ∷ 0 ∷ [])
+    ∷ patches (0 ∷ 0 ∷ 0 ∷ 0 ∷ 0 ∷ 0 ∷ 0 ∷ 0 ∷ []) 16 (N ∷ N ∷ N ∷ N ∷ []) (0xE3C0_0103 ∷ 0xE580_1000 ∷ N ∷ N ∷ []) (0 ∷ 0 ∷ 0 ∷ 0 ∷ 0 ∷ 1 ∷ 0 ∷ 0 ∷ [])
     ∷ []
 
 all-right : T (every table)
-unfolding every table right same-list same-verdict headWord headReading literalReading readingsOf roleAlone roleAfter rolesOf rotated valueOf dataMaskValue branchMaskValue immediateIs isMask isDataMask isBranchMask isTest canBeGuarded maskGuards testGuards branchGuards closes isPair behind signedStep targetOf literalOf operandNames names baseOf branchRegister writesSp keepsFlags takesSp isCall isUnlisted isCompare isMove isData operandOf dataFields isHalfMove isNop isMultiply multiplyFields isAnyAccess isLiteralLoad isAccess accessFields isBranch isRegisterBranch kindOf readingOf sandboxEnd codeLimit layoutHolds lengthHolds rule4 rule5 rule6 wantsGuard rule7 rule8 rule9 literalHolds rule10 wordAtAddress landingOf inTrampolines landable rule11 rulesOf lowestFrom faultOf codeFault wordsVerdict checkVerdict entryOf ledgerOf sum firstFrom listFrom listOf wordAt bundleWords bundleAt readingAt beforeAt nextAt roleAt targetAt landingAt landings targetRole faultAt
+unfolding every table right same-list same-verdict headWord headReading literalReading readingsOf roleAlone roleAfter rolesOf rotated valueOf dataMaskValue branchMaskValue immediateIs isMask isDataMask isBranchMask isTest canBeGuarded maskGuards testGuards branchGuards closes isPair behind signedStep targetOf literalOf operandNames names baseOf branchRegister writesSp keepsFlags takesSp isCall isUnlisted isCompare isMove isData operandOf dataFields isHalfMove isNop isMultiply multiplyFields isAnyAccess isLiteralLoad isAccess accessFields isBranch isRegisterBranch kindOf readingOf sandboxEnd codeLimit layoutHolds lengthHolds rule4 rule5 rule6 wantsGuard rule7 rule8 rule9 literalHolds rule10 wordAtAddress landingOf inTrampolines landable rule11 rulesOf lowestFrom faultOf codeFault wordsVerdict checkVerdict entryOf ledgerOf sum firstFrom listFrom listOf wordAt bundleWords bundleAt readingAt beforeAt nextAt roleAt targetAt landingAt landings targetRole faultAt roleFrom standingFault all shapeHolds countsHold rolesAgree oldCounted countLess newFit strandedAt agrees strandedVerdict newWordsVerdict bundlesVerdict patchVerdict movedEntry movedLedger
 all-right = tt
 
 -- ---- what a row states, and the law
@@ -121,6 +132,9 @@ abbrev pub States : Row → Type 0
 States (takes tests ws ledger) =
     (checkVerdict (bench tests) (bytes ws) (length ws) ≡ accepted) × (ledgerOf (bench tests) (bytes ws) ≡ ledger)
 States (refuses tests ws number at) = checkVerdict (bench tests) (bytes ws) (length ws) ≡ refusedAt number at
+States (patches ledger offset old new after) =
+    (patchVerdict (bench true) ledger offset (bytes old) (bytes new) ≡ accepted) × (movedLedger (bench true) ledger (offset / 4) (bytes old) (bytes new) ≡ after)
+States (holds-back ledger offset old new number at) = patchVerdict (bench true) ledger offset (bytes old) (bytes new) ≡ refusedAt number at
 
 abbrev pub AllStated : List Row → Type 0
 AllStated [] = Unit {0}
@@ -132,6 +146,10 @@ stated (takes tests ws ledger) t =
     let p = and-yes (same-verdict (checkVerdict (bench tests) (bytes ws) (length ws)) accepted) (same-list (ledgerOf (bench tests) (bytes ws)) ledger) t in
     (verdicts-same _ _ (p .0), lists-same _ _ (p .1))
 stated (refuses tests ws number at) t = verdicts-same _ _ t
+stated (patches ledger offset old new after) t =
+    let p = and-yes (same-verdict (patchVerdict (bench true) ledger offset (bytes old) (bytes new)) accepted) (same-list (movedLedger (bench true) ledger (offset / 4) (bytes old) (bytes new)) after) t in
+    (verdicts-same _ _ (p .0), lists-same _ _ (p .1))
+stated (holds-back ledger offset old new number at) t = verdicts-same _ _ t
 
 all-stated : (rs : List Row) → T (every rs) → AllStated rs
 unfolding every

@@ -1,7 +1,8 @@
-// The paper's words from the bench, run through the check and, row by row, printed: what the check
+// The paper's words from the bench, run through the calls and, row by row, printed: what a call
 // answers, and the ledger where it accepts. The set that the paper marks is proved besides, as one
 // table over the definitions (proofs/Table.antt).
 use checker::check::check;
+use checker::patch::patch;
 use libc::STDOUT_FILENO;
 use rules::layout::Layout;
 use rules::outcome::Outcome;
@@ -184,11 +185,38 @@ fn literals() {
     two(0xEA00_0000, N, N);
 }
 
+// One bundle patched; the ledger afterwards.
+fn patched(ledger: [u32; 8], offset: usize, old: [u8; 16], new: [u8; 16]) -> [u32; 8] {
+    let mut after = ledger;
+    let mut bytes = old;
+    match patch(layout(true), &mut after, offset, &mut bytes, &new) {
+        Outcome::Accepted => {
+            io::write_all(STDOUT_FILENO, b"accepted,");
+            print_entries(after[0], after[1], after[2], after[3]);
+            print_entries(after[4], after[5], after[6], after[7]);
+            io::write_all(STDOUT_FILENO, b"\n");
+        }
+        Outcome::Refused(reason) => print_reason(reason),
+    }
+    after
+}
+
+// The region that `literals` ends with: its second bundle is landed on, until the first is patched.
+fn patches() {
+    let nops = first_half(with_bundle([0u8; 32], 0, N, N, N, N));
+    let branch = first_half(with_bundle([0u8; 32], 0, N, N, N, 0xEA00_0000));
+    let access = first_half(with_bundle([0u8; 32], 0, 0xE3C0_0103, 0xE580_1000, N, N));
+    let kept = patched([0, 0, 0, 0, 0, 4, 0, 0], 16, nops, access);
+    let freed = patched(kept, 0, branch, nops);
+    patched(freed, 16, nops, access);
+}
+
 fn main() {
     masks();
     branches();
     heads();
     literals();
+    patches();
     length_0();
     length_15();
     length_65552();

@@ -21,6 +21,7 @@ use Rattle.checker.specs.Lists.{firstFrom}
 use Rattle.checker.specs.Region.{roleAt}
 use Rattle.checker.specs.Standing.{landings, faultAt, breaksAt}
 use Rattle.checker.specs.Check.{wordsOf, codeFault, wordBreaks, wordsVerdict, checkVerdict, entryOf, ledgerOf, ledgerAfter, Checked}
+use Rattle.checker.specs.Patch.{movedLedger, patchVerdict, Patched}
 use Rattle.checker.proofs.First.{first-to, first-hit, first-miss, first-none, found-at}
 use Rattle.checker.proofs.Lists.{list-length, list-at}
 use Rattle.checker.proofs.Outcomes.{verdict-tells}
@@ -189,3 +190,22 @@ refusal-keeps l code before after r p d = go (checkVerdict l code (length before
     go accepted e = absurd (d (p .verdict ∙ e))
     go (refused number) e = p .ledger ∙ ap (λ (v : Verdict). ledgerAfter v (ledgerOf l code) before) e
     go (refusedAt number at) e = p .ledger ∙ ap (λ (v : Verdict). ledgerAfter v (ledgerOf l code) before) e
+
+-- and so for the patch: one answer, one ledger and one state of the old bytes
+module _ (l : Layout) (ledger : List ℕ) (offset : ℕ) (old new : List ℕ) where
+  pub patch-unique : (a b s t : List ℕ) (r q : Outcome) → Patched l ledger offset old new a s r → Patched l ledger offset old new b t q → (r ≡ q) × (a ≡ b) × (s ≡ t)
+  patch-unique a b s t r q x y = (verdict-tells r q (x .verdict ∙ sym (y .verdict)), x .ledger′ ∙ sym (y .ledger′), x .bytes ∙ sym (y .bytes))
+
+  -- a refusal changes no entry and no byte
+  pub refused-patch-keeps : (after bytes : List ℕ) (r : Outcome) → Patched l ledger offset old new after bytes r → (verdictOf r ≡ accepted → ⊥) → (after ≡ ledger) × (bytes ≡ old)
+  unfolding ledgerAfter
+  refused-patch-keeps after bytes r p d = go (patchVerdict l ledger offset old new) refl
+    where
+      kept : (v : Verdict) → patchVerdict l ledger offset old new ≡ v → (after ≡ ledgerAfter v (movedLedger l ledger (offset / 4) old new) ledger) × (bytes ≡ ledgerAfter v new old)
+      kept v e =
+          (p .ledger′ ∙ ap (λ (x : Verdict). ledgerAfter x (movedLedger l ledger (offset / 4) old new) ledger) e, p .bytes ∙ ap (λ (x : Verdict). ledgerAfter x new old) e)
+
+      go : (v : Verdict) → patchVerdict l ledger offset old new ≡ v → (after ≡ ledger) × (bytes ≡ old)
+      go accepted e = absurd (d (p .verdict ∙ e))
+      go (refused number) e = kept (refused number) e
+      go (refusedAt number at) e = kept (refusedAt number at) e
