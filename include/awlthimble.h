@@ -23,8 +23,7 @@ uint64_t awl_check(uint32_t code_start, uint32_t trampoline_first, uint32_t tram
 /* Patches code that awl_check accepted, under the same layout, without reading the rest of it: the
  * bundles of old_bundles, which stand offset bytes past code_start, become those of new_bundles. ledger
  * is the region's, as awl_check or the last patch left it. Where it accepts, the old bytes have been
- * overwritten and the ledger is the one that a fresh check of the edited region would write.
- * new_bundles must overlap neither of the others. */
+ * overwritten and the ledger moved to fit. new_bundles must overlap neither of the others. */
 uint64_t awl_patch(uint32_t code_start, uint32_t trampoline_first, uint32_t trampoline_end,
                    bool test_pairs, uint32_t *ledger, size_t ledger_len, size_t offset,
                    uint8_t *old_bundles, size_t old_len, const uint8_t *new_bundles,
