@@ -44,11 +44,11 @@ module _ (l : Layout) (code : List ℕ) where
 
   -- ---- a word's fault, by its rules
 
-  fault-meets : (k : ℕ) → codeFault l code k ≡ 0 → Meets k
+  pub fault-meets : (k : ℕ) → codeFault l code k ≡ 0 → Meets k
   unfolding codeFault faultAt wordBreaks breaksAt
   fault-meets k e number = none-fault l (wordsOf code) _ _ _ _ _ _ e number
 
-  meets-fault : (k : ℕ) → Meets k → codeFault l code k ≡ 0
+  pub meets-fault : (k : ℕ) → Meets k → codeFault l code k ≡ 0
   unfolding codeFault faultAt wordBreaks breaksAt
   meets-fault k h = fault-none l (wordsOf code) _ _ _ _ _ _ h
 

@@ -9,7 +9,13 @@ pub mod Moving
 pub mod Exchange
 pub mod Undo
 pub mod Patches
+pub mod Edited
+pub mod Recount
+pub mod Landing
 pub mod Checks
 pub mod Outcomes
 pub mod Inner
 pub mod Demands
+pub mod Refresh
+pub mod Fresh
+pub mod Sequences

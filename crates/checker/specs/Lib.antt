@@ -6,3 +6,4 @@ pub mod Ledger
 pub mod Check
 pub mod Patch
 pub mod PatchParts
+pub mod Edit
