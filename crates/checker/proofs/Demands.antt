@@ -11,7 +11,12 @@ use mathlib.Core.List.{List}
 use lib.Dec.{eqb, ltb, leb}
 use lib.ListN.{length, getD}
 use borrow.Author.Tests.{eq-eqb, ne-eqb, lt-ltb, le-ltb, ltb-true, ltb-false, eqb-true}
+use Rattle.decoder.specs.Bundle.{plain, inner, rolesOf}
+use Rattle.decoder.specs.Pair.{isPair}
 use Rattle.decoder.proofs.Bools.{by-test}
+use Rattle.decoder.proofs.Roles.{slot-0-never-inner}
+use Rattle.decoder.proofs.Plain.{plain-before-inner}
+use Rattle.decoder.proofs.Apart.{no-two-pairs}
 use Rattle.rules.specs.declared.layout.Layout.{Layout}
 use Rattle.rules.specs.declared.outcome.Outcome.{Outcome}
 use Rattle.rules.specs.declared.outcome.Reason.{Reason}
@@ -20,7 +25,7 @@ use Rattle.rules.specs.Layout.{layoutHolds, lengthHolds, addressOf}
 use Rattle.rules.specs.Outcome.{Verdict, accepted, refused, refusedAt, reasonVerdict, verdictOf, numberOf, carriesAddress}
 use Rattle.rules.proofs.Lowest.{fault-none, none-fault, lowest, lowest-is}
 use Rattle.checker.specs.Lists.{firstFrom}
-use Rattle.checker.specs.Region.{roleAt}
+use Rattle.checker.specs.Region.{bundleWords, bundleAt, readingAt, beforeAt, nextAt, roleAt}
 use Rattle.checker.specs.Standing.{landings, faultAt, breaksAt}
 use Rattle.checker.specs.Check.{wordsOf, codeFault, wordBreaks, wordsVerdict, checkVerdict, entryOf, ledgerOf, ledgerAfter, Checked}
 use Rattle.checker.specs.Patch.{movedLedger, patchVerdict, Patched}
@@ -195,6 +200,27 @@ carries-exactly (Target at) = refl
 carries-exactly PatchShape = refl
 carries-exactly Disagreement = refl
 carries-exactly (Stranded at) = refl
+
+-- ---- Of any region, and so of an accepted one
+
+-- the word before an inner word is plain, and lies in the same bundle
+pub inner-follows-plain : (code : List ℕ) (k : ℕ) → roleAt code k ≡ inner → (0 < k % 4) × (roleAt code (k - 1) ≡ plain)
+unfolding roleAt bundleAt bundleWords
+inner-follows-plain code k e = go (k % 4) refl
+  where
+    go : (s : ℕ) → k % 4 ≡ s → (0 < k % 4) × (roleAt code (k - 1) ≡ plain)
+    go zero m = absurd (slot-0-never-inner (bundleAt code (k / 4)) (subst (λ (x : ℕ). getD (rolesOf (bundleAt code (k / 4))) x 0 ≡ inner) m e))
+    go (suc s) m =
+        let small : s < 3 = omega arith in
+        let d : (k - 1) / 4 ≡ k / 4 = omega arith in
+        let r : (k - 1) % 4 ≡ s = omega arith in (
+          omega arith,
+          rw (d, r) (plain-before-inner _ _ _ _ s small (subst (λ (x : ℕ). getD (rolesOf (bundleAt code (k / 4))) x 0 ≡ inner) m e)),
+        )
+
+-- no word is in two pairs
+pub in-one-pair : (code : List ℕ) (k : ℕ) → isPair (beforeAt code k) (readingAt code k) ≡ true → isPair (readingAt code k) (nextAt code k) ≡ true → ⊥
+in-one-pair code k = no-two-pairs (beforeAt code k) (readingAt code k) (nextAt code k)
 
 -- ---- Demand 1: what the check promises is one answer and one ledger, for all inputs
 

@@ -14,7 +14,6 @@ pub mod Recount
 pub mod Landing
 pub mod Checks
 pub mod Outcomes
-pub mod Inner
 pub mod Demands
 pub mod Refresh
 pub mod Fresh
