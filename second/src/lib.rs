@@ -13,6 +13,7 @@
 pub mod awl;
 mod bundle;
 mod check;
+pub mod families;
 mod layout;
 mod ledger;
 pub mod make;
@@ -21,6 +22,7 @@ mod pair;
 mod patch;
 pub mod regions;
 pub mod rng;
+pub mod rows;
 mod rules;
 mod survey;
 pub mod word;

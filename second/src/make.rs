@@ -85,6 +85,13 @@ pub fn guard(word: u32) -> u32 {
     }
 }
 
+/// The words, and nops in the missing slots of the last bundle.
+pub fn padded(words: &[u32]) -> Vec<u32> {
+    let mut words = words.to_vec();
+    words.resize(words.len().next_multiple_of(4), NOP);
+    words
+}
+
 pub fn bytes(words: &[u32]) -> Vec<u8> {
     words.iter().flat_map(|word| word.to_le_bytes()).collect()
 }

@@ -22,8 +22,27 @@ pub enum Outcome {
 }
 
 impl Outcome {
-    pub(crate) fn refused(number: u32) -> Outcome {
+    /// A refusal that carries no address.
+    pub fn refused(number: u32) -> Outcome {
         Outcome::Refused { number, address: None }
+    }
+
+    /// 0 for acceptance, else the refusal's number.
+    pub fn number(self) -> u32 {
+        match self {
+            Outcome::Accepted => 0,
+            Outcome::Refused { number, .. } => number,
+        }
+    }
+
+    /// As the C interface gives it: the number below the address, 0 for none.
+    pub fn answer(self) -> u64 {
+        match self {
+            Outcome::Refused { number, address: Some(address) } => {
+                u64::from(address) << 32 | u64::from(number)
+            }
+            _ => u64::from(self.number()),
+        }
     }
 }
 

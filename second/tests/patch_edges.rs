@@ -2,7 +2,7 @@
 
 mod common;
 
-use common::{answer, padded, refused, refused_at, LAYOUT};
+use common::{answer, refused, refused_at, LAYOUT};
 use second::make::*;
 use second::{patch, Layout, Outcome};
 

@@ -1,7 +1,7 @@
 //! What the tests share: regions as words, answers as the paper writes them.
 #![allow(dead_code)] // each test file uses its part
 
-use second::make::{bytes, NOP};
+use second::make::{bytes, padded};
 use second::{check, Layout, Outcome};
 
 pub use second::regions::BENCH_LAYOUT as LAYOUT;
@@ -17,19 +17,15 @@ pub fn refused_at(number: u32, address: u32) -> Outcome {
     Outcome::Refused { number, address: Some(address) }
 }
 
-/// The words, and nops in the missing slots of the last bundle.
-pub fn padded(words: &[u32]) -> Vec<u32> {
-    let mut words = words.to_vec();
-    words.resize(words.len().next_multiple_of(4), NOP);
-    words
+pub fn answer(layout: &Layout, words: &[u32]) -> Result<Vec<u32>, Outcome> {
+    answer_to_bytes(layout, &bytes(&padded(words)))
 }
 
 /// The answer, and the ledger of an accepted region. A refusal must leave the
 /// ledger as it was.
-pub fn answer(layout: &Layout, words: &[u32]) -> Result<Vec<u32>, Outcome> {
-    let code = bytes(&padded(words));
+pub fn answer_to_bytes(layout: &Layout, code: &[u8]) -> Result<Vec<u32>, Outcome> {
     let mut ledger = vec![STALE; code.len() / 4];
-    match check(layout, &code, &mut ledger) {
+    match check(layout, code, &mut ledger) {
         Outcome::Accepted => Ok(ledger),
         refusal => {
             assert!(ledger.iter().all(|&entry| entry == STALE));

@@ -53,11 +53,7 @@ impl Tally {
 
     /// Counts one comparison, and shows it if it is among the first to differ.
     pub fn count(&mut self, outcome: Outcome, same: bool, show: impl FnOnce() -> String) {
-        let number = match outcome {
-            Outcome::Accepted => 0,
-            Outcome::Refused { number, .. } => number as usize,
-        };
-        self.answers[number] += 1;
+        self.answers[outcome.number() as usize] += 1;
         if !same {
             self.differences += 1;
             if self.differences <= SHOWN {

@@ -1,70 +1,55 @@
 //! The families of patches: honest sequences, and calls with damaged parts.
 
-use crate::families;
-use crate::places::damage;
-use crate::report::{hex, Tally};
-use second::make::{branch, bytes, words, ALWAYS, HEAD, NOP};
-use second::regions::{self, address, edit, part, region};
-use second::rng::Rng;
-use second::{awl, check, patch, Layout, Outcome, CODE_LIMIT};
+use super::{odd_bundle, places::damage, web, Family};
+use crate::make::{branch, bytes, words, ALWAYS, HEAD, NOP};
+use crate::regions::{self, address, edit, part, region};
+use crate::rng::Rng;
+use crate::{check, patch, Layout, Outcome, CODE_LIMIT};
+use std::ops::Range;
 
-pub struct Family {
-    pub name: &'static str,
-    pub share: u64,
-    pub run: fn(&mut Rng, &mut Tally),
-}
-
-pub const ALL: [Family; 4] = [
-    Family { name: "sequences", share: 5, run: sequence },
-    Family { name: "damaged", share: 3, run: damaged },
-    Family { name: "odd", share: 1, run: odd },
-    Family { name: "counts", share: 1, run: counts },
+pub(super) const ALL: [Family<Vec<Call>>; 4] = [
+    Family { name: "sequences", share: 5, make: sequence },
+    Family { name: "damaged", share: 3, make: |rng| vec![damaged(rng)] },
+    Family { name: "odd", share: 1, make: |rng| vec![odd(rng)] },
+    Family { name: "counts", share: 1, make: |rng| vec![counts(rng)] },
 ];
-pub const SHARES: u64 = 10;
 
 /// Everything a patch call is handed.
 #[derive(Clone, PartialEq)]
-struct Call {
-    layout: Layout,
-    ledger: Vec<u32>,
-    offset: usize,
-    old: Vec<u8>,
-    new: Vec<u8>,
+pub struct Call {
+    pub layout: Layout,
+    pub ledger: Vec<u32>,
+    pub offset: usize,
+    pub old: Vec<u8>,
+    pub new: Vec<u8>,
+    /// The whole edited region, where the ledger is the region's own.
+    edited: Option<Vec<u32>>,
 }
 
 impl Call {
-    /// The call that turns a region into an edited one of equal length.
-    fn new(layout: Layout, ledger: &[u32], code: &[u32], edited: &[u32], first: usize) -> Call {
-        let (old, new) = (bytes(code), bytes(edited));
-        Call { layout, ledger: ledger.to_vec(), offset: 4 * first, old, new }
+    /// The call that turns words of a region into as many others.
+    pub fn new(layout: Layout, ledger: &[u32], first: usize, old: &[u32], new: &[u32]) -> Call {
+        let (ledger, offset) = (ledger.to_vec(), 4 * first);
+        Call { layout, ledger, offset, old: bytes(old), new: bytes(new), edited: None }
     }
 
-    /// Puts the call to both programs, and gives what the own one left.
-    fn compare(&self, tally: &mut Tally, expected: impl Fn(Outcome, &Call) -> bool) -> Call {
-        let (mut after, mut library) = (self.clone(), self.clone());
-        let Call { layout, ledger, offset, old, new } = &mut after;
-        let own = patch(layout, ledger, *offset, old, new);
-        let Call { layout, ledger, offset, old, new } = &mut library;
-        let theirs = awl::patch(layout, ledger, *offset, old, new);
-        let kept = own == Outcome::Accepted || after == *self;
-        let same = own == theirs && after == library && kept && expected(own, &after);
-        tally.count(own, same, || {
-            format!(
-                "before  {}\nown     {own:?} {}\nlibrary {theirs:?} {}",
-                self.show(),
-                after.show(),
-                library.show()
-            )
-        });
-        after
+    /// This program's answer, and what it leaves.
+    pub fn answer(&self) -> (Outcome, Call) {
+        let mut after = self.clone();
+        let Call { layout, ledger, offset, old, new, .. } = &mut after;
+        let outcome = patch(layout, ledger, *offset, old, new);
+        (outcome, after)
     }
 
-    fn show(&self) -> String {
-        let (old, new) = (hex(&self.old), hex(&self.new));
-        format!(
-            "{:?} offset {} old {old} new {new} ledger {:?}",
-            self.layout, self.offset, self.ledger
-        )
+    /// Demand 3, of an answer and what it left: both are as a fresh check of the
+    /// edited region has them.
+    pub fn is_fresh(&self, outcome: Outcome, after: &Call) -> bool {
+        let Some(edited) = &self.edited else { return true };
+        match (outcome, fresh(&self.layout, edited)) {
+            (Outcome::Accepted, Some(ledger)) => after.ledger == ledger && after.old == self.new,
+            (Outcome::Refused { number, .. }, None) => number != 12 && number != 13,
+            _ => false,
+        }
     }
 }
 
@@ -76,7 +61,7 @@ fn checked(rng: &mut Rng) -> (Layout, Vec<u32>, Vec<u32>) {
         _ => 1 + rng.below(8),
     };
     let layout = regions::layout(rng, 16 * bundles);
-    let make = rng.pick(&[region, families::web]);
+    let make = rng.pick(&[region, web]);
     let code = make(rng, &layout, bundles);
     let ledger = fresh(&layout, &code).expect("a region to order is accepted");
     (layout, code, ledger)
@@ -88,31 +73,33 @@ fn fresh(layout: &Layout, code: &[u32]) -> Option<Vec<u32>> {
     (check(layout, &bytes(code), &mut ledger) == Outcome::Accepted).then_some(ledger)
 }
 
-/// Demand 3: patches one upon the other, each against a fresh check.
-fn sequence(rng: &mut Rng, tally: &mut Tally) {
+/// Honest patches, one upon the other.
+fn sequence(rng: &mut Rng) -> Vec<Call> {
     let (layout, mut code, mut ledger) = checked(rng);
+    let mut calls = Vec::new();
     for _ in 0..1 + rng.below(20) {
         let part = part(rng, code.len());
-        let edited = edit(rng, &layout, &code, part.clone());
-        let call =
-            Call::new(layout, &ledger, &code[part.clone()], &edited[part.clone()], part.start);
-        let fresh = fresh(&layout, &edited);
-        let after = call.compare(tally, |outcome, after| match outcome {
-            Outcome::Accepted => fresh.as_ref() == Some(&after.ledger) && after.old == call.new,
-            Outcome::Refused { number, .. } => fresh.is_none() && number != 12 && number != 13,
-        });
+        let call = honest(rng, layout, &ledger, &code, part.clone());
+        let (_, after) = call.answer();
         code[part].copy_from_slice(&words(&after.old));
         ledger = after.ledger;
+        calls.push(call);
     }
+    calls
+}
+
+/// A call that edits a part of a region, with the region's own ledger.
+fn honest(rng: &mut Rng, layout: Layout, ledger: &[u32], code: &[u32], part: Range<usize>) -> Call {
+    let edited = edit(rng, &layout, code, part.clone());
+    let call = Call::new(layout, ledger, part.start, &code[part.clone()], &edited[part]);
+    Call { edited: Some(edited), ..call }
 }
 
 /// An honest call with one part or two of it damaged.
-fn damaged(rng: &mut Rng, tally: &mut Tally) {
+fn damaged(rng: &mut Rng) -> Call {
     let (layout, code, ledger) = checked(rng);
     let part = part(rng, code.len());
-    let edited = edit(rng, &layout, &code, part.clone());
-    let mut call =
-        Call::new(layout, &ledger, &code[part.clone()], &edited[part.clone()], part.start);
+    let mut call = Call { edited: None, ..honest(rng, layout, &ledger, &code, part) };
     for _ in 0..1 + rng.below(2) {
         match rng.below(12) {
             0..=3 => damage_entry(rng, &mut call.ledger),
@@ -130,7 +117,7 @@ fn damaged(rng: &mut Rng, tally: &mut Tally) {
             _ => damage(rng, &mut call.layout),
         }
     }
-    call.compare(tally, |_, _| true);
+    call
 }
 
 fn damage_entry(rng: &mut Rng, ledger: &mut [u32]) {
@@ -184,23 +171,23 @@ fn damage_old(rng: &mut Rng, old: &mut [u8]) {
 
 /// Odd bundles for odd bundles, old ones that no check accepts among them, with
 /// a ledger that mostly agrees on their roles.
-fn odd(rng: &mut Rng, tally: &mut Tally) {
+fn odd(rng: &mut Rng) -> Call {
     let bundles = 1 + rng.below(3);
     let layout = regions::layout(rng, 16 * bundles);
     let mut ledger: Vec<u32> = (0..4 * bundles).map(|_| 4 * rng.field(4)).collect();
     let first = 4 * rng.below(bundles);
-    let (old, new) = (families::odd_bundle(rng), families::odd_bundle(rng));
+    let (old, new) = (odd_bundle(rng), odd_bundle(rng));
     for (entry, role) in ledger[first..].iter_mut().zip(regions::roles(&old)) {
         *entry += role as u32;
     }
     if rng.once_in(8) {
         damage_entry(rng, &mut ledger);
     }
-    Call::new(layout, &ledger, &old, &new, first).compare(tally, |_, _| true);
+    Call::new(layout, &ledger, first, &old, &new)
 }
 
 /// Counts about the number of words, under old and new branches.
-fn counts(rng: &mut Rng, tally: &mut Tally) {
+fn counts(rng: &mut Rng) -> Call {
     let bundles = 1 + rng.below(3);
     let layout = regions::layout(rng, 16 * bundles);
     let target = rng.below(4 * bundles);
@@ -219,5 +206,5 @@ fn counts(rng: &mut Rng, tally: &mut Tally) {
         (first..first + 4).map(|place| if rng.once_in(2) { NOP } else { visitor(place) }).collect()
     };
     let (old, new) = (visitors(), visitors());
-    Call::new(layout, &ledger, &old, &new, first).compare(tally, |_, _| true);
+    Call::new(layout, &ledger, first, &old, &new)
 }

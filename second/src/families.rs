@@ -1,19 +1,76 @@
-//! The families of regions for the check.
+//! Families of reproducible random calls, to compare programs by: here regions
+//! for the check.
 
-use crate::case::Case;
-use crate::{pairs, places};
-use second::make::*;
-use second::regions::{self, address, aim, bundle, region, spoil, FREE};
-use second::rng::Rng;
-use second::{Layout, CODE_LIMIT};
+mod pairs;
+pub mod patches;
+mod places;
 
-pub struct Family {
+use crate::make::*;
+use crate::regions::{self, address, aim, bundle, region, spoil, FREE};
+use crate::rng::Rng;
+use crate::{Layout, CODE_LIMIT};
+
+/// A kind of call, and its share of all.
+pub struct Family<T> {
     pub name: &'static str,
-    pub share: u64,
-    pub make: fn(&mut Rng) -> Case,
+    share: u64,
+    pub make: fn(&mut Rng) -> T,
 }
 
-pub const ALL: [Family; 11] = [
+/// One check, as a program is handed it.
+pub struct Case {
+    pub layout: Layout,
+    pub code: Vec<u8>,
+    /// The ledger's length.
+    pub entries: usize,
+}
+
+impl Case {
+    /// A region with a ledger that fits it.
+    pub fn new(layout: Layout, words: &[u32]) -> Case {
+        Case { layout, code: bytes(words), entries: words.len() }
+    }
+
+    /// A ledger to hand over, of entries that nobody means.
+    pub fn stale(&self, rng: &mut Rng) -> Vec<u32> {
+        (0..self.entries).map(|_| rng.word()).collect()
+    }
+}
+
+/// A program's argument: first the seed, then how many regions and patches.
+pub fn argument(place: usize, default: u64) -> u64 {
+    match std::env::args().nth(place) {
+        Some(text) => text.parse().expect("seed, regions and patches are numbers"),
+        None => default,
+    }
+}
+
+/// Each family of regions, its numbers, and its share of so many.
+pub fn of_regions(seed: u64, count: u64) -> impl Iterator<Item = (Family<Case>, Rng, u64)> {
+    shares(REGIONS, seed << 8, count)
+}
+
+/// The same for patches; a family makes some at a time.
+pub fn of_patches(
+    seed: u64,
+    count: u64,
+) -> impl Iterator<Item = (Family<Vec<patches::Call>>, Rng, u64)> {
+    shares(patches::ALL, seed << 8 | 0x80, count)
+}
+
+fn shares<T, const N: usize>(
+    families: [Family<T>; N],
+    seed: u64,
+    count: u64,
+) -> impl Iterator<Item = (Family<T>, Rng, u64)> {
+    let all: u64 = families.iter().map(|family| family.share).sum();
+    (seed..).zip(families).map(move |(seed, family)| {
+        let share = count * family.share / all;
+        (family, Rng::new(seed), share)
+    })
+}
+
+const REGIONS: [Family<Case>; 11] = [
     Family { name: "random", share: 1, make: random },
     Family { name: "edges", share: 4, make: edges },
     Family { name: "pairs", share: 4, make: pairs::pairs },
@@ -28,18 +85,18 @@ pub const ALL: [Family; 11] = [
 ];
 
 /// A layout fit for this many words.
-pub fn layout(rng: &mut Rng, words: &[u32]) -> Layout {
+fn layout(rng: &mut Rng, words: &[u32]) -> Layout {
     regions::layout(rng, 4 * words.len())
 }
 
 /// One to `most` bundles of nops.
-pub fn nops(rng: &mut Rng, most: usize) -> Vec<u32> {
+fn nops(rng: &mut Rng, most: usize) -> Vec<u32> {
     vec![NOP; 4 * (1 + rng.below(most))]
 }
 
 /// Puts a branch to a word of the region in the place of a nop, by choice
 /// before that word, so that its role tells even where it breaks a rule.
-pub fn visit(rng: &mut Rng, layout: &Layout, words: &mut [u32], target: usize) {
+fn visit(rng: &mut Rng, layout: &Layout, words: &mut [u32], target: usize) {
     let own = if rng.once_in(2) { rng.below(target + 1) } else { rng.below(words.len()) };
     if words[own] == NOP {
         let own_address = address(layout, own) as u32;
@@ -109,7 +166,7 @@ fn edge_word(rng: &mut Rng) -> u32 {
     }
 }
 
-pub fn edge_condition(rng: &mut Rng) -> u32 {
+fn edge_condition(rng: &mut Rng) -> u32 {
     match rng.below(4) {
         0 => EQUAL,
         1 => rng.field(16),
@@ -118,7 +175,7 @@ pub fn edge_condition(rng: &mut Rng) -> u32 {
 }
 
 /// Mostly free registers, else those where rules begin and end.
-pub fn edge_register(rng: &mut Rng) -> u32 {
+fn edge_register(rng: &mut Rng) -> u32 {
     if rng.once_in(3) {
         rng.pick(&[0, 8, 9, 10, 12, 13, 14, 15])
     } else {
@@ -149,8 +206,7 @@ fn heads(rng: &mut Rng) -> Case {
 }
 
 /// One bundle of a case where the words themselves are odd.
-#[cfg(feature = "patch")]
-pub fn odd_bundle(rng: &mut Rng) -> Vec<u32> {
+fn odd_bundle(rng: &mut Rng) -> Vec<u32> {
     let words = words(&rng.pick(&[random, edges, pairs::pairs, heads])(rng).code);
     let first = 4 * rng.below(words.len() / 4);
     words[first..first + 4].to_vec()
@@ -189,7 +245,7 @@ fn large(rng: &mut Rng) -> Case {
 }
 
 /// Bundles full of branches among ordinary ones, all soundly aimed.
-pub fn web(rng: &mut Rng, layout: &Layout, bundles: usize) -> Vec<u32> {
+fn web(rng: &mut Rng, layout: &Layout, bundles: usize) -> Vec<u32> {
     let mut words = Vec::new();
     for _ in 0..bundles {
         if rng.once_in(3) {

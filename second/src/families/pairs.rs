@@ -1,10 +1,9 @@
 //! Pairs built right, and then almost right.
 
-use crate::case::Case;
-use crate::families::{edge_condition, edge_register, layout, nops, visit};
-use second::make::*;
-use second::regions::SP;
-use second::rng::Rng;
+use super::{edge_condition, edge_register, layout, nops, visit, Case};
+use crate::make::*;
+use crate::regions::SP;
+use crate::rng::Rng;
 
 /// Values at and near the masks'.
 const LOWS: [u32; 16] = [

@@ -1,12 +1,10 @@
 //! Families where the place decides: targets, literals, layouts and lengths.
 
-use crate::case::Case;
-use crate::families::{edge_condition, edge_register, layout, nops, visit, web};
-use crate::report::Tally;
-use second::make::*;
-use second::regions::{self, address, region, spoil};
-use second::rng::Rng;
-use second::{awl, check, Layout, CODE_LIMIT, SANDBOX_END};
+use super::{edge_condition, edge_register, layout, nops, visit, web, Case};
+use crate::make::*;
+use crate::regions::{self, address, region, spoil};
+use crate::rng::Rng;
+use crate::{Layout, CODE_LIMIT, SANDBOX_END};
 
 /// Dense branches, mostly sound, some aimed anywhere or calling out of slot.
 pub fn branches(rng: &mut Rng) -> Case {
@@ -132,29 +130,4 @@ pub fn ledgers(rng: &mut Rng) -> Case {
         case.code.truncate(rng.below(case.code.len()));
     }
     case
-}
-
-/// Lengths up to past the whole sandbox, which nobody need touch.
-pub fn huge(rng: &mut Rng, tally: &mut Tally) {
-    let end = SANDBOX_END as usize;
-    let mut code = vec![0; end + 32];
-    for _ in 0..1_000 {
-        let len = match rng.below(3) {
-            0 => end - 131_072 + rng.below(64) - 32,
-            1 => end + rng.below(33),
-            _ => rng.below(code.len()),
-        };
-        let mut layout = regions::layout(rng, 16);
-        if rng.once_in(2) {
-            layout.code_start = ((end - len.min(end)) as u32 & !15).max(131_072);
-        }
-        let stale = [rng.word(); 4];
-        let (mut own_ledger, mut ledger) = (stale, stale);
-        let own = check(&layout, &code[..len], &mut own_ledger);
-        let theirs = awl::check(&layout, &mut code[..len], &mut ledger);
-        let same = own == theirs && own_ledger == stale && ledger == stale;
-        tally.count(own, same, || {
-            format!("{layout:?}\nlength {len}\nown {own:?}\nlibrary {theirs:?} {ledger:?}")
-        });
-    }
 }

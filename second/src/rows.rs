@@ -1,0 +1,85 @@
+//! Every statement of document 01's "Words from the bench", in its order.
+
+use crate::families::{patches::Call, Case};
+use crate::make::{padded, NOP as N};
+use crate::outcome::{Fault, Outcome, LENGTH};
+use crate::regions::BENCH_LAYOUT;
+
+/// A call, and what the paper says of it: the ledger afterwards, or the refusal.
+pub struct Row<T> {
+    pub call: T,
+    pub says: Result<Vec<u32>, Outcome>,
+}
+
+pub fn checks() -> Vec<Row<Case>> {
+    let longest = [N; 16_384];
+    vec![
+        accepts(&[N, N, N, N], &[0, 0, 0, 0]),
+        accepts(&[0xE3C0_0103, 0xE580_1000], &[0, 1, 0, 0]),
+        accepts(&[0xE3C0_020C, 0xE580_1000], &[0, 1, 0, 0]),
+        refuses(&[N, N, N, 0xE3C0_0103, 0xE580_1000], 7, 131_088),
+        accepts(&[0xE310_0103, 0x0580_1000], &[0, 1, 0, 0]),
+        switched_off(refuses(&[0xE310_0103, 0x0580_1000], 7, 131_076)),
+        refuses(&[0x0310_0103, 0x0580_1000], 7, 131_076),
+        accepts(&[0xE3C0_013F, 0xE12F_FF10], &[0, 1, 0, 0]),
+        accepts(&[N, N, N, 0xEBFF_FFFB], &[4, 0, 0, 0]),
+        refuses(&[0xEBFF_FFFE], 9, 131_072),
+        refuses(&[0xE3C0_0103, 0xE580_1000, 0xEAFF_FFFD], 11, 131_080),
+        accepts(&[N, N, N, 0xEAFF_BFFB], &[0, 0, 0, 0]),
+        refuses(&[N, N, N, 0xEAFF_BFFC], 11, 131_084),
+        accepts(&[0xE125_BE70, !0, !0, !0], &[3, 2, 2, 2]),
+        refuses(&[N, 0xE125_BE70], 4, 131_076),
+        accepts(&[0xE1A0_D000, 0xE3CD_D103], &[0, 1, 0, 0]),
+        refuses(&[0xE1B0_D000, 0xE3CD_D103], 6, 131_072),
+        refuses(&[0xE00F_0291], 5, 131_072),
+        refuses(&[0xE589_1000], 5, 131_072),
+        refuses(&[0xE780_1002], 4, 131_072),
+        refuses(&[0xEF00_0000], 4, 131_072),
+        accepts(&[0xE59F_0004], &[0, 0, 0, 0]),
+        refuses(&[0xE59F_0008], 10, 131_072),
+        refuses(&[0xE59F_0006], 10, 131_072),
+        accepts(&[N, N, N, 0xEA00_0000, N, N, N, N], &[0, 0, 0, 0, 0, 4, 0, 0]),
+        too_short_or_long(0),
+        too_short_or_long(15),
+        too_short_or_long(65_552),
+        accepts(&longest, &[0; 16_384]),
+    ]
+}
+
+/// Of the region N N N EA000000, N N N N.
+pub fn patches() -> Vec<Row<Call>> {
+    let (branching, nops) = ([N, N, N, 0xEA00_0000], [N, N, N, N]);
+    let pair = [0xE3C0_0103, 0xE580_1000, N, N];
+    let [landed, empty, paired] = [4, 0, 1].map(|entry| [0, 0, 0, 0, 0, entry, 0, 0]);
+    let patch = |ledger, first, old, new, says| Row {
+        call: Call::new(BENCH_LAYOUT, ledger, first, old, new),
+        says,
+    };
+    vec![
+        patch(&landed, 4, &nops, &pair, refusal(14, 131_092)),
+        patch(&landed, 0, &branching, &nops, Ok(empty.to_vec())),
+        patch(&empty, 4, &nops, &pair, Ok(paired.to_vec())),
+    ]
+}
+
+fn accepts(words: &[u32], ledger: &[u32]) -> Row<Case> {
+    Row { call: Case::new(BENCH_LAYOUT, &padded(words)), says: Ok(ledger.to_vec()) }
+}
+
+fn refuses(words: &[u32], number: u32, address: u32) -> Row<Case> {
+    Row { call: Case::new(BENCH_LAYOUT, &padded(words)), says: refusal(number, address) }
+}
+
+fn refusal(number: u32, address: u32) -> Result<Vec<u32>, Outcome> {
+    Err(Fault { address, number }.into())
+}
+
+fn switched_off(mut row: Row<Case>) -> Row<Case> {
+    row.call.layout.test_pairs = false;
+    row
+}
+
+fn too_short_or_long(len: usize) -> Row<Case> {
+    let call = Case { layout: BENCH_LAYOUT, code: vec![0; len], entries: len / 4 };
+    Row { call, says: Err(Outcome::refused(LENGTH)) }
+}
