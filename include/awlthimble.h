@@ -1,12 +1,12 @@
 /* The gate for untrusted 32-bit ARM add-ons. Each call answers 0 where it accepts; else the refusal's
  * number in the low 32 bits and its address, 0 where it has none, in the high 32. A refusal changes no
  * byte of code and no ledger entry. Any lengths and contents may be passed; the pointers must be good
- * for them, ledger must not overlap the bytes, and a pointer of length 0 must not be NULL. */
+ * for them, ledger must not overlap the bytes, and a pointer of length 0 must not be NULL. Lengths and
+ * offset have 64 bits on every machine, since the proved calls count in 64 bits. */
 #ifndef AWLTHIMBLE_H
 #define AWLTHIMBLE_H
 
 #include <stdbool.h>
-#include <stddef.h>
 #include <stdint.h>
 
 #ifdef __cplusplus
@@ -17,17 +17,17 @@ extern "C" {
  * with, trampoline_end. Where it accepts, each ledger entry is 4 x (direct branches that land on the
  * word) + its role: 0 plain, 1 inner, 2 data, 3 literal head. */
 uint64_t awl_check(uint32_t code_start, uint32_t trampoline_first, uint32_t trampoline_end,
-                   bool test_pairs, const uint8_t *code, size_t code_len, uint32_t *ledger,
-                   size_t ledger_len);
+                   bool test_pairs, const uint8_t *code, uint64_t code_len, uint32_t *ledger,
+                   uint64_t ledger_len);
 
 /* Patches code that awl_check accepted, under the same layout, without reading the rest of it: the
  * bundles of old_bundles, which stand offset bytes past code_start, become those of new_bundles. ledger
  * is the region's, as awl_check or the last patch left it. Where it accepts, the old bytes have been
  * overwritten and the ledger moved to fit. new_bundles must overlap neither of the others. */
 uint64_t awl_patch(uint32_t code_start, uint32_t trampoline_first, uint32_t trampoline_end,
-                   bool test_pairs, uint32_t *ledger, size_t ledger_len, size_t offset,
-                   uint8_t *old_bundles, size_t old_len, const uint8_t *new_bundles,
-                   size_t new_len);
+                   bool test_pairs, uint32_t *ledger, uint64_t ledger_len, uint64_t offset,
+                   uint8_t *old_bundles, uint64_t old_len, const uint8_t *new_bundles,
+                   uint64_t new_len);
 
 #ifdef __cplusplus
 }

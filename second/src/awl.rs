@@ -15,9 +15,9 @@ mod foreign {
             trampoline_end: u32,
             test_pairs: Switch,
             code: *const u8,
-            code_len: usize,
+            code_len: u64,
             ledger: *mut u32,
-            ledger_len: usize,
+            ledger_len: u64,
         ) -> u64;
 
         #[cfg(feature = "patch")]
@@ -27,12 +27,12 @@ mod foreign {
             trampoline_end: u32,
             test_pairs: Switch,
             ledger: *mut u32,
-            ledger_len: usize,
-            offset: usize,
+            ledger_len: u64,
+            offset: u64,
             old_bundles: *mut u8,
-            old_len: usize,
+            old_len: u64,
             new_bundles: *const u8,
-            new_len: usize,
+            new_len: u64,
         ) -> u64;
     }
 }
@@ -48,9 +48,9 @@ pub fn check(layout: &Layout, code: &mut [u8], ledger: &mut [u32]) -> Outcome {
             layout.trampoline_end,
             layout.test_pairs as Switch,
             code.as_mut_ptr(),
-            code.len(),
+            code.len() as u64,
             ledger.as_mut_ptr(),
-            ledger.len(),
+            ledger.len() as u64,
         )
     };
     outcome(answer)
@@ -73,12 +73,12 @@ pub fn patch(
             layout.trampoline_end,
             layout.test_pairs as Switch,
             ledger.as_mut_ptr(),
-            ledger.len(),
-            offset,
+            ledger.len() as u64,
+            offset as u64,
             old.as_mut_ptr(),
-            old.len(),
+            old.len() as u64,
             new.as_mut_ptr(),
-            new.len(),
+            new.len() as u64,
         )
     };
     outcome(answer)
