@@ -8,6 +8,9 @@
 //! ```text
 //! AWL_LIB_DIR=... cargo run --release --features patch --bin compare
 //! ```
+//!
+//! `vectors` needs no library: it writes calls and their answers, which
+//! `box/replay.c` puts to the library on another machine.
 
 #[cfg(feature = "awl")]
 pub mod awl;
