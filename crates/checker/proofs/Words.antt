@@ -5,9 +5,10 @@ use native.Mathlib.Omega.{arith}
 use mathlib.Core.Path.{_≡_, _∙_, refl, sym, ap, ap₂}
 use mathlib.Core.List.{List}
 use lib.ListN.{getD}
-use Rattle.decoder.specs.Bundle.{slotReading, blank}
-use Rattle.decoder.proofs.Roles.{slot-of-bundle}
-use Rattle.checker.specs.Region.{wordAt, bundleWords, bundleAt, readingAt}
+use borrow.Author.Tests.{ne-eqb}
+use Rattle.decoder.specs.Bundle.{slotReading, roleAfter, blank}
+use Rattle.decoder.proofs.Roles.{slot-of-bundle, role-after}
+use Rattle.checker.specs.Region.{wordAt, bundleWords, bundleAt, readingAt, beforeAt, roleAt}
 
 pub bundle-word : (bytes : List ℕ) (b slot : ℕ) → slot < 4 → getD (bundleWords bytes b) slot 0 ≡ wordAt bytes (4 * b + slot)
 unfolding bundleWords
@@ -26,3 +27,16 @@ reading-at bytes k =
     ∙ ap₂ (λ (x y : ℕ). slotReading x y (k % 4))
     (bundle-word bytes (k / 4) 0 (omega arith) ∙ ap (wordAt bytes) (omega arith))
     (bundle-word bytes (k / 4) (k % 4) slot ∙ ap (wordAt bytes) (omega arith))
+
+-- the word before, where there is one in the bundle
+pub before-at : (bytes : List ℕ) (k : ℕ) → (k % 4 ≡ 0 → ⊥) → readingAt bytes (k - 1) ≡ beforeAt bytes k
+unfolding readingAt beforeAt
+before-at bytes k h =
+    let bundle : (k - 1) / 4 ≡ k / 4 = omega arith in
+    let slot : (k - 1) % 4 ≡ k % 4 - 1 = omega arith in
+    simp (ne-eqb (k % 4) 0 h) (ap₂ (λ (b s : ℕ). getD (bundleAt bytes b) s blank) bundle slot)
+
+-- a word's role takes its reading and the one before it
+pub role-at : (bytes : List ℕ) (k : ℕ) → roleAfter (beforeAt bytes k) (readingAt bytes k) ≡ roleAt bytes k
+unfolding readingAt beforeAt roleAt
+role-at bytes k = sym (role-after (bundleAt bytes (k / 4)) (k % 4) (omega arith))

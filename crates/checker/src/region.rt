@@ -1,12 +1,13 @@
 // The words, readings and roles of a slice of bytes.
 use decoder::bundle::reading;
 use decoder::bundle::readings;
-use decoder::bundle::roles;
+use decoder::bundle::role_after;
+use decoder::reading::Kind;
 use decoder::reading::Reading;
 ghost use mathlib.Core.Path.{_≡_};
 ghost use Prim.Native.Nat.{_+_, _*_, _/_, _%_, _≤_, _<_};
 ghost use lib.ListN.{length};
-ghost use Rattle.checker.specs.Region.{wordAt, bundleAt, readingAt, roleAt};
+ghost use Rattle.checker.specs.Region.{wordAt, bundleAt, readingAt, beforeAt, roleAt};
 
 fn wide(byte: u8) -> u32
     ensures { λ r. ⌜ (r ≡ byte) × (r < 256) ⌝ }
@@ -49,12 +50,24 @@ pub(crate) fn reading_at(bytes: &[u8], k: usize) -> Reading
     reading(word(bytes, k - slot), word(bytes, k), slot)
 }
 
+// The reading of the word before word k in its bundle. Slot 0 has none, and a blank one stands for it.
+fn before_at(bytes: &[u8], k: usize) -> Reading
+    requires { ⌜ (length (now bytes) % 16 ≡ 0) × (4 * k < length (now bytes)) ⌝ }
+    ensures { λ r. ⌜ r ≡ beforeAt (now (bytes .entry)) k ⌝ }
+{
+    if k % 4 == 0 {
+        return Reading {
+            condition: 0,
+            kind: Kind::Unlisted,
+        };
+    }
+    reading_at(bytes, k - 1)
+}
+
 // The role of word k.
 pub(crate) fn role_at(bytes: &[u8], k: usize) -> u32
     requires { ⌜ (length (now bytes) % 16 ≡ 0) × (4 * k < length (now bytes)) ⌝ }
     ensures { λ r. ⌜ r ≡ roleAt (now (bytes .entry)) k ⌝ }
 {
-    let roles = roles(bundle(bytes, k / 4));
-    let slot = k % 4;
-    roles[slot]
+    role_after(before_at(bytes, k), reading_at(bytes, k))
 }

@@ -4,6 +4,7 @@ pub mod Others
 pub mod Says
 pub mod Rebuilt
 pub mod Classes
+pub mod Taken
 pub mod Masks
 pub mod Roles
 pub mod Apart

@@ -1,6 +1,6 @@
 -- Roles: slot 0 is never inner; a word is inner exactly when it and the word before it in its bundle are one of the pairs; a head in
 -- slot 0 makes the other three data, whatever they are.
-use Prim.Native.Nat.{ℕ, zero, suc, _<_}
+use Prim.Native.Nat.{ℕ, zero, suc, _-_, _<_}
 use native.Mathlib.Omega.{arith}
 use native.Mathlib.Nat.{not-suc-le-zero, le-of-suc-le-suc}
 use mathlib.Core.Path.{_≡_, _∙_, refl, sym}
@@ -8,7 +8,7 @@ use mathlib.Core.Logic.{_↔_}
 use mathlib.Core.Bool.{Bool, true, false, cond}
 use mathlib.Core.List.{List, [], _∷_}
 use lib.ListN.{getD}
-use lib.Dec.{eqb, lit<}
+use lib.Dec.{eqb, ltb, lit<}
 use Rattle.decoder.specs.Mask.{isMask, isDataMask, isBranchMask, isTest}
 use Rattle.decoder.specs.Question.{baseOf, branchRegister, writesSp, keepsFlags}
 use Rattle.decoder.specs.Pair.{canBeGuarded, maskGuards, testGuards, branchGuards, closes, isPair}
@@ -61,6 +61,29 @@ slot-of-bundle ws (suc zero) h = by-test (eqb (getD ws 0 0) headWord) (λ e. sim
 slot-of-bundle ws (suc (suc zero)) h = by-test (eqb (getD ws 0 0) headWord) (λ e. simp e) (λ e. simp e)
 slot-of-bundle ws (suc (suc (suc zero))) h = by-test (eqb (getD ws 0 0) headWord) (λ e. simp e) (λ e. simp e)
 slot-of-bundle ws (suc (suc (suc (suc n)))) h = absurd (not-suc-le-zero (le-of-suc-le-suc (le-of-suc-le-suc (le-of-suc-le-suc (le-of-suc-le-suc h)))))
+
+-- what stands for a neighbour outside the bundle is in no pair
+blank-before : (r : Reading) → isPair blank r ≡ false
+unfolding isPair maskGuards testGuards branchGuards closes isDataMask isBranchMask isTest isMask writesSp
+blank-before r =
+    by-test (canBeGuarded (baseOf (r .kind))) (λ g. by-test branches (λ b. simp (g, b)) (λ b. simp (g, b))) (λ g. by-test branches (λ b. simp (g, b)) (λ b. simp (g, b)))
+  where
+    branches : Bool
+    branches = ltb (branchRegister (r .kind)) 16
+
+alone-after : (r : Reading) → roleAlone (r .kind) ≡ roleAfter blank r
+unfolding roleAfter
+alone-after r = simp (blank-before r)
+
+-- a slot's role takes its reading and the one before it
+pub role-after : (rs : List Reading) (slot : ℕ) → slot < 4
+    → getD (rolesOf rs) slot 0 ≡ roleAfter (cond (eqb slot 0) blank (getD rs (slot - 1) blank)) (getD rs slot blank)
+unfolding rolesOf
+role-after rs zero h = alone-after (getD rs 0 blank)
+role-after rs (suc zero) h = refl
+role-after rs (suc (suc zero)) h = refl
+role-after rs (suc (suc (suc zero))) h = refl
+role-after rs (suc (suc (suc (suc n)))) h = absurd (not-suc-le-zero (le-of-suc-le-suc (le-of-suc-le-suc (le-of-suc-le-suc (le-of-suc-le-suc h)))))
 
 -- a role is below 4
 alone-small : (k : Kind) → roleAlone k < 4

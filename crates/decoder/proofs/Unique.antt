@@ -10,6 +10,8 @@ use Rattle.decoder.proofs.bundle.readings.Kinds as readings-kinds
 use Rattle.decoder.proofs.bundle.readings.Reads as readings
 use Rattle.decoder.proofs.bundle.reading.Kinds as reading-kinds
 use Rattle.decoder.proofs.bundle.reading.Reads as reading
+use Rattle.decoder.proofs.bundle.role_after.Kinds as role-after-kinds
+use Rattle.decoder.proofs.bundle.role_after.Reads as role-after
 use Rattle.decoder.proofs.bundle.roles.Kinds as roles-kinds
 use Rattle.decoder.proofs.bundle.roles.Reads as roles
 use Rattle.decoder.proofs.place.direct_target.Kinds as direct-target-kinds
@@ -63,6 +65,9 @@ readings-unique a u v x y p q = p ∙ sym q
 
 pub reading-unique : Unique reading-kinds.ps reading-kinds.r reading.Post
 reading-unique a u v x y p q = p ∙ sym q
+
+pub role-after-unique : Unique role-after-kinds.ps role-after-kinds.r role-after.Post
+role-after-unique a u v x y p q = p ∙ sym q
 
 pub roles-unique : Unique roles-kinds.ps roles-kinds.r roles.Post
 roles-unique a u v x y p q = p ∙ sym q

@@ -80,7 +80,8 @@ fn role_alone(kind: Kind) -> u32
     }
 }
 
-fn role_after(first: Reading, second: Reading) -> u32
+// The role of a word behind another in its bundle.
+pub fn role_after(first: Reading, second: Reading) -> u32
     ensures { λ r. ⌜ r ≡ roleAfter first second ⌝ }
 {
     let kind = second.kind;

@@ -6,7 +6,11 @@ use crate::reading::MultiplyFields;
 use crate::reading::Operand;
 use crate::reading::Reading;
 ghost use mathlib.Core.Path.{_≡_};
-ghost use Rattle.decoder.specs.Word.{isCompare, isMove, isData, operandOf, isMultiply, isAnyAccess, isLiteralLoad, kindOf, readingOf};
+ghost use mathlib.Core.Bool.{false};
+ghost use Prim.Native.Nat.{_≤_};
+ghost use lib.Dec.{eqb};
+ghost use Rattle.decoder.specs.Bits.{bits};
+ghost use Rattle.decoder.specs.Word.{conditionOf, isCompare, isMove, isData, operandOf, isMultiply, isAnyAccess, isLiteralLoad, kindOf, readingOf};
 
 // The nop, to the bit.
 const NOP: u32 = 0xE320_F000;
@@ -89,17 +93,42 @@ fn is_literal_load(word: u32) -> bool
     is_any_access(word) & (word / 0x1_0000 % 16 == 15) & (p == 1) & (b == 0) & (w == 0) & (l == 1)
 }
 
-// The classes in the paper's order. At most one takes a word, so the order is free.
-fn kind(word: u32) -> Kind
+// Bits 27..25 are 2.
+fn access_kind(word: u32) -> Kind
+    requires { ⌜ (eqb (conditionOf word) 15 ≡ false) × (bits word 27 25 ≡ 2) ⌝ }
     ensures { λ r. ⌜ r ≡ kindOf word ⌝ }
 {
-    if word / 0x1000_0000 % 16 == 15 {
+    if !is_any_access(word) {
         return Kind::Unlisted;
+    }
+    let u = word / 0x80_0000 % 2;
+    let rt = word / 0x1000 % 16;
+    let distance = word / 1 % 4096;
+    if is_literal_load(word) {
+        return Kind::LiteralLoad { u, rt, distance };
+    }
+    Kind::Access(AccessFields {
+        p: word / 0x100_0000 % 2,
+        u,
+        b: word / 0x40_0000 % 2,
+        w: word / 0x20_0000 % 2,
+        l: word / 0x10_0000 % 2,
+        rn: word / 0x1_0000 % 16,
+        rt,
+        distance,
+    })
+}
+
+// Bits 27..25 are 0 or 1.
+fn low_kind(word: u32) -> Kind
+    requires { ⌜ (eqb (conditionOf word) 15 ≡ false) × (bits word 27 25 ≤ 1) ⌝ }
+    ensures { λ r. ⌜ r ≡ kindOf word ⌝ }
+{
+    if word == NOP {
+        return Kind::Nop;
     }
     let rn = word / 0x1_0000 % 16;
     let rd = word / 0x1000 % 16;
-    let rs = word / 256 % 16;
-    let rm = word / 1 % 16;
     let s = word / 0x10_0000 % 2;
     if is_data(word) {
         return Kind::Data(DataFields {
@@ -110,6 +139,17 @@ fn kind(word: u32) -> Kind
             operand: operand(word),
         });
     }
+    let rm = word / 1 % 16;
+    if is_multiply(word) {
+        return Kind::Multiply(MultiplyFields {
+            accumulate: word / 0x20_0000 % 2,
+            s,
+            target: rn,
+            added: rd,
+            rs: word / 256 % 16,
+            rm,
+        });
+    }
     let head = word / 0x10_0000 % 256;
     if (head == 0x30) | (head == 0x34) {
         return Kind::HalfMove {
@@ -118,52 +158,35 @@ fn kind(word: u32) -> Kind
             number: rn * 4096 + word / 1 % 4096,
         };
     }
-    if word == NOP {
-        return Kind::Nop;
-    }
-    if is_multiply(word) {
-        return Kind::Multiply(MultiplyFields {
-            accumulate: word / 0x20_0000 % 2,
-            s,
-            target: rn,
-            added: rd,
-            rs,
-            rm,
-        });
-    }
-    let u = word / 0x80_0000 % 2;
-    let distance = word / 1 % 4096;
-    if is_literal_load(word) {
-        return Kind::LiteralLoad {
-            u,
-            rt: rd,
-            distance,
-        };
-    }
-    if is_any_access(word) {
-        return Kind::Access(AccessFields {
-            p: word / 0x100_0000 % 2,
-            u,
-            b: word / 0x40_0000 % 2,
-            w: word / 0x20_0000 % 2,
-            l: s,
-            rn,
-            rt: rd,
-            distance,
-        });
-    }
-    if word / 0x200_0000 % 8 == 5 {
-        return Kind::Branch {
-            call: word / 0x100_0000 % 2,
-            offset: word / 1 % 0x100_0000,
-        };
-    }
     let top = word / 16 % 0x100_0000;
     if (top == 0x12_FFF1) | (top == 0x12_FFF3) {
         return Kind::RegisterBranch {
             call: word / 32 % 2,
             rm,
         };
+    }
+    Kind::Unlisted
+}
+
+// At most one class takes a word, so they are asked by bits 27..25 and not in the paper's order.
+fn kind(word: u32) -> Kind
+    ensures { λ r. ⌜ r ≡ kindOf word ⌝ }
+{
+    if word / 0x1000_0000 % 16 == 15 {
+        return Kind::Unlisted;
+    }
+    let group = word / 0x200_0000 % 8;
+    if group == 5 {
+        return Kind::Branch {
+            call: word / 0x100_0000 % 2,
+            offset: word / 1 % 0x100_0000,
+        };
+    }
+    if group == 2 {
+        return access_kind(word);
+    }
+    if group <= 1 {
+        return low_kind(word);
     }
     Kind::Unlisted
 }

@@ -1,30 +1,25 @@
--- `region::role_at` meets its contract: the roles are the bundle's.
+-- `region::role_at` meets its contract: the word's reading and the one before it give its role.
 use borrow.Author.Needs.{needs}
-use mathlib.Core.Path.{_∙_, ap}
-use Prim.Native.Nat.{ℕ, _%_}
-use mathlib.Core.List.{List}
-use lib.ListN.{getD}
-use Rattle.decoder.specs.Bundle.{rolesOf}
-use Rattle.checker.specs.Region.{roleAt}
+use mathlib.Core.Path.{_∙_, ap₂}
+use Rattle.decoder.specs.Bundle.{roleAfter}
+use Rattle.checker.proofs.Words.{role-at}
 use Rattle.checker.proofs.region.role_at.Statement.{statement}
 use Rattle.checker.proofs.region.role_at.Tie as tie
 
-bundle-requires : tie.Need-bundle-requires
-bundle-requires c κs = search needs
+before-at-requires : tie.Need-before-at-requires
+before-at-requires c κs = search needs
 
-roles-requires : tie.Need-roles-requires
-roles-requires c κs = search needs
+reading-at-requires : tie.Need-reading-at-requires
+reading-at-requires c κs = search needs
 
-mul-result : tie.Need-mul-result
-mul-result c = search needs
-
-array-read-result : tie.Need-array-read-result
-array-read-result c = search needs
+role-after-requires : tie.Need-role-after-requires
+role-after-requires c κs = search needs
 
 returns : tie.Need-returns
-unfolding roleAt
-returns c = ap (λ (rs : List ℕ). getD rs (c .before .before .before .args .k % 4) 0) (c .roles .ensures ∙ ap rolesOf (c .before .bundle .ensures))
+returns c =
+    let a = c .before .before .before .before .args in
+    c .role-after .ensures ∙ ap₂ roleAfter (c .before .before .before-at .ensures) (c .before .reading-at .ensures) ∙ role-at (a .bytes .now) (a .k)
 
 pub role-at-spec : {M : Type 1} → statement M
 role-at-spec =
-    tie.close (tie.spec bundle-requires roles-requires mul-result array-read-result returns)
+    tie.close (tie.spec before-at-requires reading-at-requires role-after-requires returns)
