@@ -62,6 +62,15 @@ slot-of-bundle ws (suc (suc zero)) h = by-test (eqb (getD ws 0 0) headWord) (λ 
 slot-of-bundle ws (suc (suc (suc zero))) h = by-test (eqb (getD ws 0 0) headWord) (λ e. simp e) (λ e. simp e)
 slot-of-bundle ws (suc (suc (suc (suc n)))) h = absurd (not-suc-le-zero (le-of-suc-le-suc (le-of-suc-le-suc (le-of-suc-le-suc (le-of-suc-le-suc h)))))
 
+pub four : {a b c d a′ b′ c′ d′ : Reading} → a ≡ a′ → b ≡ b′ → c ≡ c′ → d ≡ d′ → _≡_ {A = List Reading} (a ∷ b ∷ c ∷ d ∷ []) (a′ ∷ b′ ∷ c′ ∷ d′ ∷ [])
+four p q r s = λ i. p i ∷ q i ∷ r i ∷ s i ∷ []
+
+-- and the four of them are the bundle's readings
+pub slots-of-bundle : (ws : List ℕ)
+    → slotReading (getD ws 0 0) (getD ws 0 0) 0 ∷ slotReading (getD ws 0 0) (getD ws 1 0) 1 ∷ slotReading (getD ws 0 0) (getD ws 2 0) 2 ∷ slotReading (getD ws 0 0) (getD ws 3 0) 3 ∷ [] ≡ readingsOf ws
+unfolding readingsOf slotReading
+slots-of-bundle ws = by-test (eqb (getD ws 0 0) headWord) (λ e. simp e) (λ e. simp e)
+
 -- what stands for a neighbour outside the bundle is in no pair
 blank-before : (r : Reading) → isPair blank r ≡ false
 unfolding isPair maskGuards testGuards branchGuards closes isDataMask isBranchMask isTest isMask writesSp

@@ -37,27 +37,8 @@ fn read_literal(word: u32) -> Reading
     }
 }
 
-// A head in slot 0 makes the other three data.
-pub fn readings(words: [u32; 4]) -> [Reading; 4]
-    ensures { λ r. ⌜ r ≡ readingsOf words ⌝ }
-{
-    if words[0] == HEAD_WORD {
-        return [
-            read_head(words[0]),
-            read_literal(words[1]),
-            read_literal(words[2]),
-            read_literal(words[3]),
-        ];
-    }
-    [
-        read(words[0]),
-        read(words[1]),
-        read(words[2]),
-        read(words[3]),
-    ]
-}
-
-// The reading of one slot, from the bundle's first word and its own.
+// The reading of one slot, from the bundle's first word and its own. A head in slot 0 makes the other
+// three data.
 pub fn reading(first: u32, word: u32, slot: usize) -> Reading
     ensures { λ r. ⌜ r ≡ slotReading first word slot ⌝ }
 {
@@ -68,6 +49,18 @@ pub fn reading(first: u32, word: u32, slot: usize) -> Reading
         return read_literal(word);
     }
     read(word)
+}
+
+pub fn readings(words: [u32; 4]) -> [Reading; 4]
+    ensures { λ r. ⌜ r ≡ readingsOf words ⌝ }
+{
+    let first = words[0];
+    [
+        reading(first, first, 0),
+        reading(first, words[1], 1),
+        reading(first, words[2], 2),
+        reading(first, words[3], 3),
+    ]
 }
 
 fn role_alone(kind: Kind) -> u32
