@@ -1,4 +1,5 @@
--- What a reader must believe of the check, in the order of "Region, layout, ledger" and "When the gate stays shut".
+-- What a reader must believe of the check, in the order of "Region, layout, ledger" and "When the gate stays shut"; of the patch, in
+-- that of "Patching"; and of sequences of patches, in the words of demand 3.
 pub mod Lists
 pub mod Region
 pub mod Standing

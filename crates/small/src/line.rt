@@ -8,7 +8,7 @@ use rules::outcome::Reason;
 use rules::outcome::address;
 use rules::outcome::carries_address;
 use rules::outcome::number;
-ghost use Prim.Native.Nat.{_≤_};
+ghost use Prim.Native.Nat.{ℕ, _≤_};
 ghost use mathlib.Core.Path.{_≡_};
 ghost use lib.ListN.{length};
 ghost use Rattle.io.specs.Counts.{Counts};
@@ -36,9 +36,9 @@ fn put_accepted(out: &mut [u8], bytes: usize) -> usize
     put(out, size, b" bytes\n")
 }
 
-fn put_refused(out: &mut [u8], reason: Reason, bytes: usize) -> usize
+fn put_refused(out: &mut [u8], reason: Reason) -> usize
     requires { ⌜ 64 ≤ length (now out) ⌝ }
-    ensures { λ r. ⌜ Puts (now (out .entry)) 0 (lineOf (reasonVerdict reason) bytes) (now (out .exit)) r ⌝ }
+    ensures { λ r. ⌜ ((bytes : ℕ) → Puts (now (out .entry)) 0 (lineOf (reasonVerdict reason) bytes) (now (out .exit)) r) ⌝ }
 {
     let word = put(out, 0, b"refused ");
     let told = put_number(out, word, number(reason) as u64);
@@ -57,6 +57,6 @@ pub fn line(code: &[u8], ledger: &mut [u32], out: &mut [u8; 64]) -> usize
 {
     match check(layout(), code, ledger) {
         Outcome::Accepted => put_accepted(out, code.len()),
-        Outcome::Refused(reason) => put_refused(out, reason, code.len()),
+        Outcome::Refused(reason) => put_refused(out, reason),
     }
 }

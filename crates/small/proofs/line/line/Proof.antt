@@ -66,7 +66,7 @@ returns-2 c =
     subst (λ (l : Layout). Checked l (a .code .now) (a .ledger .now) (checks .last .1 .1 .0) (checks .result)) (c .before .before .before .before .before .before .before .before .before .layout .ensures) (checks .ensures)
     in
     let same : reasonVerdict (told .0 .0) ≡ v = sym (ap verdictOf (told .1)) ∙ promised .verdict in
-    let puts = subst (λ (v : Verdict). Puts (a .out .now) 0 (lineOf v (length (a .code .now))) (c .put-refused .last .0) (c .put-refused .result)) same (c .put-refused .ensures) in
+    let puts = subst (λ (v : Verdict). Puts (a .out .now) 0 (lineOf v (length (a .code .now))) (c .put-refused .last .0) (c .put-refused .result)) same (c .put-refused .ensures (length (a .code .now))) in
     (record { entries = promised .ledger; text = puts }, puts-counts (a .out .now) (lineOf v (length (a .code .now))) (c .put-refused .last .0) (c .put-refused .result) puts)
 
 pub line-spec : {M : Type 1} → statement M

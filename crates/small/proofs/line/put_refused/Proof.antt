@@ -47,7 +47,7 @@ same-length : tie.Need-same-length
 same-length c = search needs
 
 returns : tie.Need-returns
-returns c =
+returns c = λ bytes.
     let last = c .before .before in
     let test = c .before .before .before .before .before in
     let told = c .before .before .before .before .before .before .before .before .before in
@@ -57,7 +57,7 @@ returns c =
     let carries = c .before .before .before .before .before .before .carries-address in
     subst
     (λ (text : List ℕ). Puts (a .out .now) 0 text (last .put2 .last .0) (last .put2 .result))
-    (ap (λ (n : ℕ). ascii "refused " ++ numeral n ++ ascii "\n") (count .ensures) ∙ line-alone (reasonVerdict (a .reason)) (a .bytes) (reason-refuses (a .reason)) (sym (carries .ensures) ∙ not-true (carries .result) (test .if1 .taken)))
+    (ap (λ (n : ℕ). ascii "refused " ++ numeral n ++ ascii "\n") (count .ensures) ∙ line-alone (reasonVerdict (a .reason)) bytes (reason-refuses (a .reason)) (sym (carries .ensures) ∙ not-true (carries .result) (test .if1 .taken)))
     (puts-then (omega arith) (puts-then (omega arith) (word .put .ensures) (told .put-number .ensures .0)) (last .put2 .ensures))
 
 slice-aggregate-put-3 : tie.Need-slice-aggregate-put-3
@@ -85,7 +85,7 @@ same-length-2 : tie.Need-same-length-2
 same-length-2 c = search needs
 
 returns-2 : tie.Need-returns-2
-returns-2 c =
+returns-2 c = λ bytes.
     let last = c .before .before in
     let place = c .before .before .before .before .before .before .before in
     let at = c .before .before .before .before .before .before .before .before .before .before .before .before in
@@ -98,7 +98,7 @@ returns-2 c =
     let place′ = c .before .before .before .before .before .before .before .before .address in
     subst
     (λ (text : List ℕ). Puts (a .out .now) 0 text (last .put4 .last .0) (last .put4 .result))
-    (ap₂ (λ (n p : ℕ). ascii "refused " ++ numeral n ++ ascii " at " ++ numeral p ++ ascii "\n") (count .ensures) (place′ .ensures) ∙ line-at (reasonVerdict (a .reason)) (a .bytes) (sym (carries .ensures) ∙ not-false (carries .result) (test .if1 .left)))
+    (ap₂ (λ (n p : ℕ). ascii "refused " ++ numeral n ++ ascii " at " ++ numeral p ++ ascii "\n") (count .ensures) (place′ .ensures) ∙ line-at (reasonVerdict (a .reason)) bytes (sym (carries .ensures) ∙ not-false (carries .result) (test .if1 .left)))
     (puts-then (omega arith) (puts-then (omega arith) (puts-then (omega arith) (puts-then (omega arith) (word .put .ensures) (told .put-number .ensures .0)) (at .put3 .ensures)) (place .put-number2 .ensures .0)) (last .put4 .ensures))
 
 pub put-refused-spec : {M : Type 1} → statement M
