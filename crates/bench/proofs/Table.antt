@@ -9,10 +9,11 @@ use lib.ListN.{length}
 use mir.Facts.{and-yes}
 use Rattle.rules.specs.declared.layout.Layout.{Layout}
 use Rattle.rules.specs.Outcome.{Verdict, accepted, refused, refusedAt}
-use Rattle.decoder.specs.Bundle.{headWord, headReading, literalReading, readingsOf, roleAlone, roleAfter, rolesOf}
+use Rattle.decoder.specs.Bundle.{headWord, headReading, literalReading, readingsOf}
+use Rattle.pairs.specs.Role.{roleAlone, roleAfter, rolesOf}
 use Rattle.decoder.specs.Immediate.{rotated, valueOf}
-use Rattle.decoder.specs.Mask.{dataMaskValue, branchMaskValue, immediateIs, isMask, isDataMask, isBranchMask, isTest}
-use Rattle.decoder.specs.Pair.{canBeGuarded, maskGuards, testGuards, branchGuards, closes, isPair}
+use Rattle.pairs.specs.Mask.{dataMaskValue, branchMaskValue, immediateIs, isMask, isDataMask, isBranchMask, isTest}
+use Rattle.pairs.specs.Pair.{canBeGuarded, maskGuards, testGuards, branchGuards, closes, isPair}
 use Rattle.decoder.specs.Place.{behind, signedStep, targetOf, literalOf}
 use Rattle.decoder.specs.Question.{operandNames, names, baseOf, branchRegister, writesSp, keepsFlags, takesSp, isCall, isUnlisted}
 use Rattle.decoder.specs.Word.{isCompare, isMove, isData, operandOf, dataFields, isHalfMove, isNop, isMultiply, multiplyFields, isAnyAccess, isLiteralLoad, isAccess, accessFields, isBranch, isRegisterBranch, kindOf, readingOf}

@@ -11,12 +11,12 @@ use mathlib.Core.List.{List}
 use lib.Dec.{eqb, ltb, leb}
 use lib.ListN.{length, getD}
 use borrow.Author.Tests.{eq-eqb, ne-eqb, lt-ltb, le-ltb, ltb-true, ltb-false, eqb-true}
-use Rattle.decoder.specs.Bundle.{plain, inner, rolesOf}
-use Rattle.decoder.specs.Pair.{isPair}
+use Rattle.pairs.specs.Role.{plain, inner, rolesOf}
+use Rattle.pairs.specs.Pair.{isPair}
 use Rattle.decoder.proofs.Bools.{by-test}
-use Rattle.decoder.proofs.Roles.{slot-0-never-inner}
-use Rattle.decoder.proofs.Plain.{plain-before-inner}
-use Rattle.decoder.proofs.Apart.{no-two-pairs}
+use Rattle.pairs.proofs.Roles.{slot-0-never-inner}
+use Rattle.pairs.proofs.Plain.{plain-before-inner}
+use Rattle.pairs.proofs.Apart.{no-two-pairs}
 use Rattle.rules.specs.declared.layout.Layout.{Layout}
 use Rattle.rules.specs.declared.outcome.Outcome.{Outcome}
 use Rattle.rules.specs.declared.outcome.Reason.{Reason}

@@ -8,7 +8,8 @@ use lib.Dec.{eqb, ltb, leb}
 use lib.ListN.{length, getD}
 use borrow.Author.Tests.{le-leb, lt-leb, lt-ltb, le-ltb}
 use Rattle.decoder.specs.declared.reading.Reading.{Reading}
-use Rattle.decoder.specs.Bundle.{readingsOf, rolesOf, blank}
+use Rattle.decoder.specs.Bundle.{readingsOf, blank}
+use Rattle.pairs.specs.Role.{rolesOf}
 use Rattle.checker.specs.Region.{wordAt, bundleWords, bundleAt, readingAt, beforeAt, nextAt, roleAt}
 use Rattle.checker.specs.Edit.{piece, edited}
 use Rattle.checker.proofs.Lists.{list-length, list-at}

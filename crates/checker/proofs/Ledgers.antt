@@ -12,8 +12,8 @@ use lib.ListN.{length, getD, set}
 use lib.Seq.{getD-set-same, getD-set-other}
 use borrow.Author.Tests.{eq-eqb, ne-eqb}
 use Rattle.decoder.specs.declared.reading.Reading.{Reading}
-use Rattle.decoder.specs.Bundle.{rolesOf}
-use Rattle.decoder.proofs.Roles.{role-small}
+use Rattle.pairs.specs.Role.{rolesOf}
+use Rattle.pairs.proofs.Roles.{role-small}
 use Rattle.rules.specs.declared.layout.Layout.{Layout}
 use Rattle.checker.specs.Lists.{sum}
 use Rattle.checker.specs.Region.{bundleAt, roleAt}

@@ -9,7 +9,8 @@ use lib.ListN.{getD}
 use Rattle.decoder.specs.declared.reading.Reading.{Reading}
 use Rattle.decoder.specs.declared.place.Place.{Place}
 use Rattle.decoder.specs.Place.{targetOf}
-use Rattle.decoder.specs.Bundle.{headWord, readingsOf, plain, blank}
+use Rattle.decoder.specs.Bundle.{headWord, readingsOf, blank}
+use Rattle.pairs.specs.Role.{plain}
 use Rattle.decoder.proofs.Bools.{by-test}
 use Rattle.rules.specs.declared.layout.Layout.{Layout}
 use Rattle.rules.specs.Layout.{addressOf}

@@ -6,8 +6,10 @@ use mathlib.Core.Path.{_≡_, _∙_, refl, sym, ap, ap₂}
 use mathlib.Core.List.{List}
 use lib.ListN.{getD}
 use borrow.Author.Tests.{ne-eqb}
-use Rattle.decoder.specs.Bundle.{slotReading, roleAfter, blank}
-use Rattle.decoder.proofs.Roles.{slot-of-bundle, role-after}
+use Rattle.decoder.specs.Bundle.{slotReading, blank}
+use Rattle.pairs.specs.Role.{roleAfter}
+use Rattle.decoder.proofs.Bundles.{slot-of-bundle}
+use Rattle.pairs.proofs.Roles.{role-after}
 use Rattle.checker.specs.Region.{wordAt, bundleWords, bundleAt, readingAt, beforeAt, roleAt}
 
 pub bundle-word : (bytes : List ℕ) (b slot : ℕ) → slot < 4 → getD (bundleWords bytes b) slot 0 ≡ wordAt bytes (4 * b + slot)

@@ -5,7 +5,8 @@ use mathlib.Core.List.{List, [], _∷_}
 use lib.Dec.{eqb}
 use lib.ListN.{getD}
 use Rattle.decoder.specs.declared.reading.Reading.{Reading}
-use Rattle.decoder.specs.Bundle.{readingsOf, rolesOf, blank}
+use Rattle.decoder.specs.Bundle.{readingsOf, blank}
+use Rattle.pairs.specs.Role.{rolesOf}
 
 -- word k
 unfoldable pub wordAt : List ℕ → ℕ → ℕ

@@ -8,7 +8,7 @@ use lib.Dec.{eqb, ltb, leb}
 use lib.ListN.{length, getD}
 use Rattle.decoder.specs.declared.place.Place.{Place}
 use Rattle.decoder.specs.Place.{targetOf}
-use Rattle.decoder.specs.Bundle.{plain}
+use Rattle.pairs.specs.Role.{plain}
 use Rattle.rules.specs.declared.layout.Layout.{Layout}
 use Rattle.rules.specs.Layout.{addressOf}
 use Rattle.rules.specs.Rule.{landingOf, faultOf, breaks}

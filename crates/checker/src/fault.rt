@@ -2,10 +2,10 @@
 // inside them and from the ledger outside; the check has the whole region and reads no ledger entry.
 use crate::region::bundle;
 use crate::region::role_at;
-use decoder::bundle::PLAIN;
 use decoder::place::direct_target;
 use decoder::reading::Kind;
 use decoder::reading::Reading;
+use pairs::role::PLAIN;
 use rules::layout::Layout;
 use rules::rule::fault;
 use rules::rule::landing;

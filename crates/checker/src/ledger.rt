@@ -1,8 +1,8 @@
 // Writing the ledger: an entry is 4 x count + role.
 use crate::region::bundle;
 use crate::region::reading_at;
-use decoder::bundle::roles;
 use decoder::place::direct_target;
+use pairs::role::roles;
 use rules::layout::Layout;
 use rules::rule::landing;
 ghost use mathlib.Core.Path.{_≡_};

@@ -1,9 +1,9 @@
 // The words, readings and roles of a slice of bytes.
 use decoder::bundle::reading;
 use decoder::bundle::readings;
-use decoder::bundle::role_after;
 use decoder::reading::Kind;
 use decoder::reading::Reading;
+use pairs::role::role_after;
 ghost use mathlib.Core.Path.{_≡_};
 ghost use Prim.Native.Nat.{_+_, _*_, _/_, _%_, _≤_, _<_};
 ghost use lib.ListN.{length};

@@ -5,8 +5,5 @@ pub mod Says
 pub mod Rebuilt
 pub mod Classes
 pub mod Taken
-pub mod Masks
-pub mod Roles
-pub mod Apart
-pub mod Plain
+pub mod Bundles
 pub mod Unique

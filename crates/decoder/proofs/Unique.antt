@@ -10,32 +10,12 @@ use Rattle.decoder.proofs.bundle.readings.Kinds as readings-kinds
 use Rattle.decoder.proofs.bundle.readings.Reads as readings
 use Rattle.decoder.proofs.bundle.reading.Kinds as reading-kinds
 use Rattle.decoder.proofs.bundle.reading.Reads as reading
-use Rattle.decoder.proofs.bundle.role_after.Kinds as role-after-kinds
-use Rattle.decoder.proofs.bundle.role_after.Reads as role-after
-use Rattle.decoder.proofs.bundle.roles.Kinds as roles-kinds
-use Rattle.decoder.proofs.bundle.roles.Reads as roles
 use Rattle.decoder.proofs.place.direct_target.Kinds as direct-target-kinds
 use Rattle.decoder.proofs.place.direct_target.Reads as direct-target
 use Rattle.decoder.proofs.place.literal.Kinds as literal-kinds
 use Rattle.decoder.proofs.place.literal.Reads as literal
 use Rattle.decoder.proofs.immediate.value.Kinds as value-kinds
 use Rattle.decoder.proofs.immediate.value.Reads as value
-use Rattle.decoder.proofs.mask.is_data_mask.Kinds as is-data-mask-kinds
-use Rattle.decoder.proofs.mask.is_data_mask.Reads as is-data-mask
-use Rattle.decoder.proofs.mask.is_branch_mask.Kinds as is-branch-mask-kinds
-use Rattle.decoder.proofs.mask.is_branch_mask.Reads as is-branch-mask
-use Rattle.decoder.proofs.mask.is_test.Kinds as is-test-kinds
-use Rattle.decoder.proofs.mask.is_test.Reads as is-test
-use Rattle.decoder.proofs.pair.mask_guards.Kinds as mask-guards-kinds
-use Rattle.decoder.proofs.pair.mask_guards.Reads as mask-guards
-use Rattle.decoder.proofs.pair.test_guards.Kinds as test-guards-kinds
-use Rattle.decoder.proofs.pair.test_guards.Reads as test-guards
-use Rattle.decoder.proofs.pair.branch_guards.Kinds as branch-guards-kinds
-use Rattle.decoder.proofs.pair.branch_guards.Reads as branch-guards
-use Rattle.decoder.proofs.pair.closes.Kinds as closes-kinds
-use Rattle.decoder.proofs.pair.closes.Reads as closes
-use Rattle.decoder.proofs.pair.is_pair.Kinds as is-pair-kinds
-use Rattle.decoder.proofs.pair.is_pair.Reads as is-pair
 use Rattle.decoder.proofs.question.names.Kinds as names-kinds
 use Rattle.decoder.proofs.question.names.Reads as names
 use Rattle.decoder.proofs.question.base.Kinds as base-kinds
@@ -66,12 +46,6 @@ readings-unique a u v x y p q = p ∙ sym q
 pub reading-unique : Unique reading-kinds.ps reading-kinds.r reading.Post
 reading-unique a u v x y p q = p ∙ sym q
 
-pub role-after-unique : Unique role-after-kinds.ps role-after-kinds.r role-after.Post
-role-after-unique a u v x y p q = p ∙ sym q
-
-pub roles-unique : Unique roles-kinds.ps roles-kinds.r roles.Post
-roles-unique a u v x y p q = p ∙ sym q
-
 pub direct-target-unique : Unique direct-target-kinds.ps direct-target-kinds.r direct-target.Post
 direct-target-unique a u v x y p q = p ∙ sym q
 
@@ -80,30 +54,6 @@ literal-unique a u v x y p q = p ∙ sym q
 
 pub value-unique : Unique value-kinds.ps value-kinds.r value.Post
 value-unique a u v x y p q = p ∙ sym q
-
-pub is-data-mask-unique : Unique is-data-mask-kinds.ps is-data-mask-kinds.r is-data-mask.Post
-is-data-mask-unique a u v x y p q = p ∙ sym q
-
-pub is-branch-mask-unique : Unique is-branch-mask-kinds.ps is-branch-mask-kinds.r is-branch-mask.Post
-is-branch-mask-unique a u v x y p q = p ∙ sym q
-
-pub is-test-unique : Unique is-test-kinds.ps is-test-kinds.r is-test.Post
-is-test-unique a u v x y p q = p ∙ sym q
-
-pub mask-guards-unique : Unique mask-guards-kinds.ps mask-guards-kinds.r mask-guards.Post
-mask-guards-unique a u v x y p q = p ∙ sym q
-
-pub test-guards-unique : Unique test-guards-kinds.ps test-guards-kinds.r test-guards.Post
-test-guards-unique a u v x y p q = p ∙ sym q
-
-pub branch-guards-unique : Unique branch-guards-kinds.ps branch-guards-kinds.r branch-guards.Post
-branch-guards-unique a u v x y p q = p ∙ sym q
-
-pub closes-unique : Unique closes-kinds.ps closes-kinds.r closes.Post
-closes-unique a u v x y p q = p ∙ sym q
-
-pub is-pair-unique : Unique is-pair-kinds.ps is-pair-kinds.r is-pair.Post
-is-pair-unique a u v x y p q = p ∙ sym q
 
 pub names-unique : Unique names-kinds.ps names-kinds.r names.Post
 names-unique a u v x y p q = p ∙ sym q

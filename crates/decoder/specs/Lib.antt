@@ -1,11 +1,9 @@
--- What a reader must believe of the decoder, in the order of "Word classes" and "Pairs".
+-- What a reader must believe of the decoder, in the order of "Word classes".
 pub mod Bits
 pub mod Word
 pub mod Kinds
 pub mod Place
 pub mod Immediate
-pub mod Mask
 pub mod Question
-pub mod Pair
 pub mod Bundle
 pub mod Rebuild

@@ -2,8 +2,6 @@
 // no layout, no region and no ledger.
 pub mod bundle;
 pub mod immediate;
-pub mod mask;
-pub mod pair;
 pub mod place;
 pub mod question;
 pub mod reading;

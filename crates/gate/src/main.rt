@@ -1,4 +1,9 @@
-// The small program: raw code from standard input, and one line.
+// The small program: it reads raw code from standard input, under the paper's layout, and writes one
+// line.
+mod line;
+mod program;
+mod text;
+
 fn main() {
-    small::program::run();
+    program::run();
 }

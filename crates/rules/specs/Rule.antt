@@ -10,11 +10,11 @@ use Rattle.decoder.specs.declared.reading.Kind.{Kind}
 use Rattle.decoder.specs.declared.reading.Reading.{Reading}
 use Rattle.decoder.specs.declared.place.Place.{Place}
 use Rattle.decoder.specs.declared.place.Place.the-variants.{Absent, Below, At}
-use Rattle.decoder.specs.Mask.{isDataMask}
+use Rattle.pairs.specs.Mask.{isDataMask}
 use Rattle.decoder.specs.Place.{targetOf, literalOf}
 use Rattle.decoder.specs.Question.{names, baseOf, branchRegister, writesSp, takesSp, isCall, isUnlisted}
-use Rattle.decoder.specs.Pair.{maskGuards, testGuards, branchGuards, closes}
-use Rattle.decoder.specs.Bundle.{plain, head}
+use Rattle.pairs.specs.Pair.{maskGuards, testGuards, branchGuards, closes}
+use Rattle.pairs.specs.Role.{plain, head}
 use Rattle.rules.specs.declared.layout.Layout.{Layout}
 
 -- 4: the word is in no class

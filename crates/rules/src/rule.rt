@@ -1,13 +1,6 @@
 // Rules 4 to 11, each a yes where the word breaks it, and the lowest number that it breaks. before and
 // next are the words beside it in its bundle.
 use crate::layout::Layout;
-use decoder::bundle::HEAD;
-use decoder::bundle::PLAIN;
-use decoder::mask::is_data_mask;
-use decoder::pair::branch_guards;
-use decoder::pair::closes;
-use decoder::pair::mask_guards;
-use decoder::pair::test_guards;
 use decoder::place::Place;
 use decoder::place::direct_target;
 use decoder::place::literal;
@@ -22,6 +15,13 @@ use decoder::question::takes_sp;
 use decoder::question::writes_sp;
 use decoder::reading::Kind;
 use decoder::reading::Reading;
+use pairs::mask::is_data_mask;
+use pairs::pair::branch_guards;
+use pairs::pair::closes;
+use pairs::pair::mask_guards;
+use pairs::pair::test_guards;
+use pairs::role::HEAD;
+use pairs::role::PLAIN;
 ghost use mathlib.Core.Path.{_≡_};
 ghost use Rattle.decoder.specs.declared.reading.Reading.{Reading};
 ghost use Rattle.rules.specs.Rule.{rule4 as «r4», rule5 as «r5», rule6 as «r6», wantsGuard, rule7 as «r7», rule8 as «r8», rule9 as «r9», literalHolds, rule10 as «r10», wordAtAddress, landingOf, inTrampolines, landable as «can-land», rule11 as «r11», faultOf};

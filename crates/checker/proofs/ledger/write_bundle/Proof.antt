@@ -5,10 +5,10 @@ use native.Mathlib.Omega.{arith}
 use mathlib.Core.Path.{_≡_, _∙_, refl, sym, ap, subst}
 use lib.ListN.{length, getD, set, length-set}
 use mathlib.Core.List.{List}
-use Rattle.decoder.specs.Bundle.{rolesOf}
+use Rattle.pairs.specs.Role.{rolesOf}
 use Rattle.checker.specs.Region.{bundleAt, roleAt}
 use Rattle.checker.specs.Ledger.{RolesWritten}
-use Rattle.decoder.proofs.Roles.{role-small}
+use Rattle.pairs.proofs.Roles.{role-small}
 use Rattle.checker.proofs.Ledgers.{role-in-bundle, written-none, written-one, written-then}
 use Rattle.checker.proofs.ledger.write_bundle.Statement.{statement}
 use Rattle.checker.proofs.ledger.write_bundle.Tie as tie

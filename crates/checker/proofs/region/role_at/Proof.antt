@@ -1,7 +1,7 @@
 -- `region::role_at` meets its contract: the word's reading and the one before it give its role.
 use borrow.Author.Needs.{needs}
 use mathlib.Core.Path.{_∙_, ap₂}
-use Rattle.decoder.specs.Bundle.{roleAfter}
+use Rattle.pairs.specs.Role.{roleAfter}
 use Rattle.checker.proofs.Words.{role-at}
 use Rattle.checker.proofs.region.role_at.Statement.{statement}
 use Rattle.checker.proofs.region.role_at.Tie as tie

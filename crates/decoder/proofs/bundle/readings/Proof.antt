@@ -1,7 +1,7 @@
 -- `bundle::readings` meets its contract, slot by slot.
 use borrow.Author.Needs.{needs}
 use mathlib.Core.Path.{_∙_}
-use Rattle.decoder.proofs.Roles.{four, slots-of-bundle}
+use Rattle.decoder.proofs.Bundles.{four, slots-of-bundle}
 use Rattle.decoder.proofs.bundle.readings.Statement.{statement}
 use Rattle.decoder.proofs.bundle.readings.Tie as tie
 

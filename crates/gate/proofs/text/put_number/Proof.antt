@@ -1,0 +1,64 @@
+-- `text::put_number` meets its contract: the numeral is what `io::decimal` wrote.
+use Prim.Native.Nat.{ℕ, _+_, _≤_}
+use native.Mathlib.Omega.{arith}
+use mathlib.Core.Path.{_≡_, _∙_, sym, subst}
+use mathlib.Core.List.{List}
+use lib.ListN.{length, take}
+use Rattle.gate.specs.Text.{numeral, Puts}
+use Rattle.gate.proofs.Texts.{few-digits, numeral-is}
+use borrow.Author.Needs.{needs}
+use Rattle.gate.proofs.text.put_number.Statement.{statement}
+use Rattle.gate.proofs.text.put_number.Tie as tie
+use Rattle.gate.proofs.text.put_number.Reads as reads
+use Rattle.gate.proofs.text.put_number.Lts as lts
+use Rattle.io.proofs.decimal.Reads as decimal-reads
+use Rattle.gate.proofs.text.put.Reads as put-reads
+
+-- src/text.rt:26:9
+decimal-requires : tie.Need-decimal-requires
+decimal-requires c κs = search needs
+
+-- src/text.rt:27:18
+array-share-prefix-digits : tie.Need-array-share-prefix-digits
+array-share-prefix-digits c = search needs
+
+-- src/text.rt:27:18
+slice-aggregate-put : tie.Need-slice-aggregate-put
+slice-aggregate-put c = search needs
+
+-- src/text.rt:27:5
+put-requires : tie.Need-put-requires
+put-requires c κs =
+    let fits = c .before .before .before .before .before .pre in
+    let d = c .before .before .decimal in
+    let taken = d .ensures .0 .1 in
+    let few = few-digits (c .before .before .before .before .before .args .number) (d .result) (c .before .before .before .before .before .good .1 .1 .0 .1) (d .ensures .1 .0) in
+    omega arith
+
+-- src/text.rt:21:1
+same-length : tie.Need-same-length
+same-length c = search needs
+
+-- src/text.rt:21:1
+returns : tie.Need-returns
+returns c =
+    let before = c .before .before .before in
+    let d = before .before .before .decimal in
+    let start = before .before .before .before .before .before in
+    let few = few-digits (start .args .number) (d .result) (start .good .1 .1 .0 .1) (d .ensures .1 .0) in
+    let taken = d .ensures .0 .1 in
+    let told : take (d .result) (d .last .1 .0) ≡ numeral (start .args .number) = d .ensures .1 .1 ∙ sym (numeral-is (d .result) (start .args .number) (d .ensures .1 .0) few) in
+    let put = c .before .before .put in
+    let ends = put .ensures .ends in
+    (subst (λ (text : List ℕ). Puts (start .args .out .now) (start .args .at) text (put .last .0) (put .result)) told (put .ensures), omega arith)
+
+pub put-number-spec : {M : Type 1} → statement M
+put-number-spec =
+    tie.close
+    (tie.spec
+    decimal-requires
+    array-share-prefix-digits
+    slice-aggregate-put
+    put-requires
+    same-length
+    returns)

@@ -1,0 +1,6 @@
+-- Laws that belong to no one function.
+pub mod Masks
+pub mod Roles
+pub mod Apart
+pub mod Plain
+pub mod Unique
