@@ -7,3 +7,4 @@ pub mod Classes
 pub mod Taken
 pub mod Bundles
 pub mod Unique
+pub mod Points

@@ -14,7 +14,7 @@ use Rattle.decoder.specs.Bits.{bits}
 use Rattle.decoder.specs.Word.{conditionOf, rnOf, rdOf, isCompare, isMove, operationOf, sOf, dataShape, isData, operandOf, dataFields, isHalfMove, halfMoveKind, isNop, isMultiply, multiplyFields, isAnyAccess, isLiteralLoad, literalLoadKind, isAccess, accessFields, isBranch, branchKind, isRegisterBranch, registerBranchKind, kindOf, readingOf}
 use Rattle.decoder.specs.Question.{isUnlisted}
 use Rattle.decoder.specs.Bundle.{headWord, headReading, literalReading}
-use Rattle.decoder.specs.Rebuild.{groupOf, operandBits, kindBits, wordOf}
+use Rattle.decoder.specs.parts.Rebuild.{groupOf, operandBits, kindBits, wordOf}
 use Rattle.decoder.specs.declared.reading.Kind.the-variants.{Data, Nop, Multiply, Access}
 use Rattle.decoder.proofs.Bools.{by-test}
 use Rattle.decoder.proofs.Says.{data-shape, half-move-says, multiply-says, access-says, literal-load-says, register-branch-says}

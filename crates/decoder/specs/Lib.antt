@@ -6,4 +6,4 @@ pub mod Place
 pub mod Immediate
 pub mod Question
 pub mod Bundle
-pub mod Rebuild
+pub mod parts

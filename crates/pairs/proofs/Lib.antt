@@ -4,3 +4,4 @@ pub mod Roles
 pub mod Apart
 pub mod Plain
 pub mod Unique
+pub mod Points

@@ -3,3 +3,4 @@ pub mod Tests
 pub mod Says
 pub mod Lowest
 pub mod Unique
+pub mod Points

@@ -1,0 +1,72 @@
+-- The right answer at points where a wrong one is near. Each promise is an equation, so a point rules out every other answer there.
+use Prim.Native.Nat.{ℕ}
+use mathlib.Core.Path.{_≡_}
+use mathlib.Core.Bool.{true, false}
+use mathlib.Core.List.{List, [], _∷_}
+use lib.ListN.{getD}
+use Rattle.decoder.specs.Word.{isCompare, isMove, isData, operandOf, dataFields, isHalfMove, isNop, isMultiply, multiplyFields, isAnyAccess, isLiteralLoad, isAccess, accessFields, isBranch, isRegisterBranch, kindOf, readingOf}
+use Rattle.decoder.specs.Bundle.{headWord, headReading, literalReading, readingsOf, slotReading, blank}
+use Rattle.decoder.specs.Place.{behind, signedStep, targetOf, literalOf}
+use Rattle.decoder.specs.Immediate.{rotated, valueOf}
+use Rattle.decoder.specs.Question.{operandNames, names, baseOf, branchRegister, writesSp, keepsFlags, takesSp, isCall, isUnlisted}
+use Rattle.decoder.specs.declared.reading.Kind.{Kind}
+use Rattle.decoder.specs.declared.reading.Kind.the-variants.{Unlisted, Nop, Multiply, Head, Literal}
+use Rattle.decoder.specs.declared.place.Place.the-variants.{Below, At}
+
+abbrev N : ℕ
+N = 0xE320_F000
+
+abbrev F : ℕ
+F = 0xFFFF_FFFF
+
+-- the kind in one slot of four words
+abbrev kindIn : List ℕ → ℕ → Kind
+kindIn ws slot = getD (readingsOf ws) slot blank .kind
+
+pub record Points : Type 0 where
+  -- word::read
+  pub write-back-onto-itself : kindOf 0xE5B1_1004 ≡ Unlisted
+  pub multiply-target : kindOf 0xE001_0392 ≡ Multiply (record { accumulate = 0; s = 0; target = 1; added = 0; rs = 3; rm = 2 })
+  -- bundle::readings
+  pub no-head-in-slot-1 : (kindIn (N ∷ headWord ∷ N ∷ N ∷ []) 0 ≡ Nop) × (kindIn (N ∷ headWord ∷ N ∷ N ∷ []) 1 ≡ Unlisted)
+  pub data-behind-a-head : (kindIn (headWord ∷ F ∷ F ∷ F ∷ []) 0 ≡ Head) × (kindIn (headWord ∷ F ∷ F ∷ F ∷ []) 3 ≡ Literal 0xFFF_FFFF)
+  -- bundle::reading
+  pub head-in-slot-0 : slotReading headWord headWord 0 .kind ≡ Head
+  pub data-in-slot-1 : slotReading headWord N 1 .kind ≡ Literal 0x320_F000
+  -- place::direct_target
+  pub target-backward : targetOf (kindOf 0xEAFF_FFFE) 131072 ≡ At 131072
+  pub target-negative : targetOf (kindOf 0xEA80_0000) 131072 ≡ Below
+  -- place::literal
+  pub literal-forward : literalOf (kindOf 0xE59F_0004) 131072 ≡ At 131084
+  pub literal-backward : literalOf (kindOf 0xE51F_0004) 131072 ≡ At 131076
+  -- immediate::value
+  pub two-places-a-turn : valueOf 1 3 ≡ 0xC000_0000
+  pub other-rotation : valueOf 2 0x0C ≡ 0xC000_0000
+  -- question::names
+  pub names-base : names 9 (kindOf 0xE589_1000) ≡ true
+  pub names-rt : names 9 (kindOf 0xE580_9000) ≡ true
+  -- question::base
+  pub base-of-store : baseOf (kindOf 0xE580_1000) ≡ 0
+  pub base-of-load : baseOf (kindOf 0xE591_0000) ≡ 1
+  -- question::branch_register
+  pub register-of-bx : branchRegister (kindOf 0xE12F_FF13) ≡ 3
+  pub register-of-blx : branchRegister (kindOf 0xE12F_FF33) ≡ 3
+  -- question::writes_sp
+  pub sp-as-rd : writesSp (kindOf 0xE1A0_D000) ≡ true
+  pub sp-as-rn : writesSp (kindOf 0xE28D_0004) ≡ false
+  -- question::keeps_flags
+  pub flags-kept : keepsFlags (kindOf 0xE1A0_D000) ≡ true
+  pub flags-set : keepsFlags (kindOf 0xE1B0_D000) ≡ false
+  -- question::takes_sp
+  pub store-of-sp : takesSp (kindOf 0xE580_D000) ≡ false
+  pub load-of-sp : takesSp (kindOf 0xE590_D000) ≡ true
+  -- question::is_call
+  pub bx-no-call : isCall (kindOf 0xE12F_FF10) ≡ false
+  pub blx-call : isCall (kindOf 0xE12F_FF30) ≡ true
+  -- question::is_unlisted
+  pub nop-listed : isUnlisted (kindOf N) ≡ false
+  pub svc-unlisted : isUnlisted (kindOf 0xEF00_0000) ≡ true
+
+pub points : Points
+unfolding kindOf isData isCompare isMove isHalfMove isNop isMultiply isAnyAccess isLiteralLoad isAccess isBranch isRegisterBranch dataFields operandOf multiplyFields accessFields readingOf headWord headReading literalReading readingsOf slotReading behind signedStep targetOf literalOf rotated valueOf operandNames names baseOf branchRegister writesSp keepsFlags takesSp isCall isUnlisted
+points = search
