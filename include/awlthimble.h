@@ -1,8 +1,19 @@
 /* The gate for untrusted 32-bit ARM add-ons. Each call answers 0 where it accepts; else the refusal's
  * number in the low 32 bits and its address, 0 where it has none, in the high 32. A refusal changes no
- * byte of code and no ledger entry. Any lengths and contents may be passed; the pointers must be good
- * for them, ledger must not overlap the bytes, and a pointer of length 0 must not be NULL. Lengths and
- * offset have 64 bits on every machine, since the proved calls count in 64 bits. */
+ * byte of code and no ledger entry.
+ *
+ * Any lengths and contents may be passed. What the caller must keep to:
+ * - The pointers are good for their lengths, ledger does not overlap the bytes, and a pointer of length
+ *   0 is not NULL. Lengths and offset have 64 bits on every machine, since the proved calls count in 64
+ *   bits.
+ * - Nobody else writes to lent memory during a call. The check reads the code more than once, so a
+ *   second writer could swap a word after it was tested.
+ * - Nothing but these calls writes to checked code or its ledger. An add-on's stores reach the whole
+ *   sandbox, so while one runs its code is not writable there, and the ledger lies outside.
+ * - A call promises what memory holds. That the processor sees it, past its instruction caches, is the
+ *   caller's to bring about.
+ * So to load an add-on: copy it to where it is to run, check that copy, make it not writable,
+ * synchronise the instruction caches, and only then run it. */
 #ifndef AWLTHIMBLE_H
 #define AWLTHIMBLE_H
 
@@ -23,7 +34,10 @@ uint64_t awl_check(uint32_t code_start, uint32_t trampoline_first, uint32_t tram
 /* Patches code that awl_check accepted, under the same layout, without reading the rest of it: the
  * bundles of old_bundles, which stand offset bytes past code_start, become those of new_bundles. ledger
  * is the region's, as awl_check or the last patch left it. Where it accepts, the old bytes have been
- * overwritten and the ledger moved to fit. new_bundles must overlap neither of the others. */
+ * overwritten and the ledger moved to fit. new_bundles must overlap neither of the others. Bytes are
+ * copied one by one, so during the call no thread runs the bundles that are being replaced, and none
+ * runs the add-on at all unless the call writes through a mapping of its own. The instruction caches
+ * are synchronised before the new bundles run. */
 uint64_t awl_patch(uint32_t code_start, uint32_t trampoline_first, uint32_t trampoline_end,
                    bool test_pairs, uint32_t *ledger, uint64_t ledger_len, uint64_t offset,
                    uint8_t *old_bundles, uint64_t old_len, const uint8_t *new_bundles,

@@ -19,28 +19,29 @@ use Rattle.decoder.specs.declared.reading.Kind.{Kind}
 use Rattle.decoder.specs.declared.reading.Kind.the-variants.{Unlisted, Data, HalfMove, Nop, Multiply, Access, LiteralLoad, Branch, RegisterBranch, Head, Literal}
 use Rattle.decoder.proofs.Bools.{by-test}
 
-alone-not-inner : (k : Kind) → roleAlone k ≡ inner → ⊥
+-- a word's role by itself is not inner, and below 4
+alone-is : (k : Kind) → (roleAlone k ≡ inner → ⊥) × (roleAlone k < 4)
 unfolding roleAlone
-alone-not-inner Unlisted e = omega arith
-alone-not-inner (Data f) e = omega arith
-alone-not-inner (HalfMove a b c) e = omega arith
-alone-not-inner Nop e = omega arith
-alone-not-inner (Multiply f) e = omega arith
-alone-not-inner (Access f) e = omega arith
-alone-not-inner (LiteralLoad a b c) e = omega arith
-alone-not-inner (Branch a b) e = omega arith
-alone-not-inner (RegisterBranch a b) e = omega arith
-alone-not-inner Head e = omega arith
-alone-not-inner (Literal a) e = omega arith
+alone-is Unlisted = omega arith
+alone-is (Data f) = omega arith
+alone-is (HalfMove a b c) = omega arith
+alone-is Nop = omega arith
+alone-is (Multiply f) = omega arith
+alone-is (Access f) = omega arith
+alone-is (LiteralLoad a b c) = omega arith
+alone-is (Branch a b) = omega arith
+alone-is (RegisterBranch a b) = omega arith
+alone-is Head = omega arith
+alone-is (Literal a) = omega arith
 
 after-inner : (first second : Reading) → (roleAfter first second ≡ inner) ↔ (isPair first second ≡ true)
 unfolding roleAfter
 after-inner first second =
-    ((λ e. by-test (isPair first second) (λ p. p) (λ p. absurd (alone-not-inner (second .kind) (simp p at e)))), λ p. simp p)
+    ((λ e. by-test (isPair first second) (λ p. p) (λ p. absurd (alone-is (second .kind) .0 (simp p at e)))), λ p. simp p)
 
 pub slot-0-never-inner : (rs : List Reading) → getD (rolesOf rs) 0 0 ≡ inner → ⊥
 unfolding rolesOf
-slot-0-never-inner rs e = alone-not-inner (getD rs 0 blank .kind) e
+slot-0-never-inner rs e = alone-is (getD rs 0 blank .kind) .0 e
 
 pub inner-exactly : (rs : List Reading) (slot : ℕ) → slot < 3
     → (getD (rolesOf rs) (suc slot) 0 ≡ inner) ↔ (isPair (getD rs slot blank) (getD rs (suc slot) blank) ≡ true)
@@ -78,27 +79,13 @@ role-after rs (suc (suc (suc zero))) h = refl
 role-after rs (suc (suc (suc (suc n)))) h = absurd (not-suc-le-zero (le-of-suc-le-suc (le-of-suc-le-suc (le-of-suc-le-suc (le-of-suc-le-suc h)))))
 
 -- a role is below 4
-alone-small : (k : Kind) → roleAlone k < 4
-unfolding roleAlone
-alone-small Unlisted = omega arith
-alone-small (Data f) = omega arith
-alone-small (HalfMove a b c) = omega arith
-alone-small Nop = omega arith
-alone-small (Multiply f) = omega arith
-alone-small (Access f) = omega arith
-alone-small (LiteralLoad a b c) = omega arith
-alone-small (Branch a b) = omega arith
-alone-small (RegisterBranch a b) = omega arith
-alone-small Head = omega arith
-alone-small (Literal a) = omega arith
-
 after-small : (first second : Reading) → roleAfter first second < 4
 unfolding roleAfter
-after-small first second = by-test (isPair first second) (λ p. simp p (lit< tt)) (λ p. simp p (alone-small (second .kind)))
+after-small first second = by-test (isPair first second) (λ p. simp p (lit< tt)) (λ p. simp p (alone-is (second .kind) .1))
 
 pub role-small : (rs : List Reading) (slot : ℕ) → getD (rolesOf rs) slot 0 < 4
 unfolding rolesOf
-role-small rs zero = alone-small (getD rs 0 blank .kind)
+role-small rs zero = alone-is (getD rs 0 blank .kind) .1
 role-small rs (suc zero) = after-small (getD rs 0 blank) (getD rs 1 blank)
 role-small rs (suc (suc zero)) = after-small (getD rs 1 blank) (getD rs 2 blank)
 role-small rs (suc (suc (suc zero))) = after-small (getD rs 2 blank) (getD rs 3 blank)
