@@ -8,8 +8,10 @@ use decoder::question::base;
 use decoder::question::branch_register;
 use decoder::question::keeps_flags;
 use decoder::question::writes_sp;
+use decoder::reading::Kind;
 use decoder::reading::Reading;
 ghost use mathlib.Core.Path.{_≡_};
+ghost use Rattle.decoder.specs.Question.{baseOf};
 ghost use Rattle.pairs.specs.Pair.{canBeGuarded, maskGuards, testGuards, branchGuards, closes as «closes-sp», isPair};
 
 const PC: u32 = 15;
@@ -18,9 +20,11 @@ const ALWAYS: u32 = 14;
 
 const EQUAL: u32 = 0;
 
-fn can_be_guarded(r: u32) -> bool
-    ensures { λ b. ⌜ b ≡ canBeGuarded r ⌝ }
+// An access, on another register than r13 and r15.
+fn can_be_guarded(access: Kind) -> bool
+    ensures { λ b. ⌜ b ≡ canBeGuarded (baseOf access) ⌝ }
 {
+    let r = base(access);
     (r < NO_REGISTER) & !(r == SP) & !(r == PC)
 }
 
@@ -30,11 +34,10 @@ pub fn mask_guards(first: Reading, second: Reading) -> bool
 {
     let mask = first.kind;
     let access = second.kind;
-    let r = base(access);
-    if !can_be_guarded(r) {
+    if !can_be_guarded(access) {
         return false;
     }
-    is_data_mask(r, mask) & (first.condition == second.condition)
+    is_data_mask(base(access), mask) & (first.condition == second.condition)
 }
 
 // An access, guarded by a test.
@@ -43,11 +46,10 @@ pub fn test_guards(first: Reading, second: Reading) -> bool
 {
     let test = first.kind;
     let access = second.kind;
-    let r = base(access);
-    if !can_be_guarded(r) {
+    if !can_be_guarded(access) {
         return false;
     }
-    is_test(r, test) & (first.condition == ALWAYS) & (second.condition == EQUAL)
+    is_test(base(access), test) & (first.condition == ALWAYS) & (second.condition == EQUAL)
 }
 
 // A register branch, guarded by a branch mask.

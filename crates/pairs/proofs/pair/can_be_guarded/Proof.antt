@@ -1,12 +1,16 @@
--- `pair::can_be_guarded` meets its contract: it computes the definition's own test.
-use mathlib.Core.Path.{refl}
+-- `pair::can_be_guarded` meets its contract: it computes the definition's own test of the base.
+use borrow.Author.Needs.{needs}
+use mathlib.Core.Path.{ap}
 use Rattle.pairs.specs.Pair.{canBeGuarded}
 use Rattle.pairs.proofs.pair.can_be_guarded.Statement.{statement}
 use Rattle.pairs.proofs.pair.can_be_guarded.Tie as tie
 
+base-requires : tie.Need-base-requires
+base-requires c κs = search needs
+
 returns : tie.Need-returns
 unfolding canBeGuarded
-returns c = refl
+returns c = ap canBeGuarded (c .base .ensures)
 
 pub can-be-guarded-spec : {M : Type 1} → statement M
-can-be-guarded-spec = tie.close (tie.spec returns)
+can-be-guarded-spec = tie.close (tie.spec base-requires returns)
