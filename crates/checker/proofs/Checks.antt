@@ -1,33 +1,33 @@
 -- The check, on plain values: each of its answers is the one that the definition gives.
-use Prim.Native.Nat.{ℕ, suc, _+_, _-_, _*_, _/_, _%_, _≤_, _<_}
-use native.Mathlib.Nat.{zero-add, sub-zero, mul-zero, add-comm}
+use Prim.Native.Nat.{ℕ, _+_, _-_, _*_, _/_, _%_, _≤_, _<_}
+use native.Mathlib.Nat.{zero-add, sub-zero, add-comm}
 use native.Mathlib.Omega.{arith}
 use mathlib.Core.Path.{_≡_, _∙_, refl, sym, ap, ap₂, subst}
-use mathlib.Core.Bool.{Bool, true, false, not, _&&_, cond}
+use mathlib.Core.Bool.{Bool, true, false, cond}
 use mathlib.Core.List.{List}
-use lib.Dec.{eqb, ltb, leb}
+use lib.Dec.{eqb, ltb}
 use lib.ListN.{length, getD}
 use borrow.Author.Tests.{eq-eqb, ne-eqb, lt-ltb, le-ltb, le-leb, ltb-true}
 use Rattle.decoder.specs.declared.place.Place.{Place}
 use Rattle.decoder.proofs.Bools.{by-test}
 use Rattle.rules.specs.declared.layout.Layout.{Layout}
 use Rattle.rules.specs.declared.outcome.Reason.{Reason}
-use Rattle.rules.specs.declared.outcome.Outcome.{Outcome}
 use Rattle.rules.specs.declared.outcome.Reason.the-variants.{Layout as LayoutBroken, CodeLength, LedgerLength}
 use Rattle.rules.specs.declared.outcome.Outcome.the-variants.{Accepted, Refused}
 use Rattle.rules.specs.Layout.{layoutHolds, lengthHolds, addressOf}
-use Rattle.rules.specs.Outcome.{Verdict, accepted, refused, refusedAt, reasonVerdict, verdictOf}
+use Rattle.rules.specs.Outcome.{Verdict, accepted, refusedAt, reasonVerdict, verdictOf}
 use Rattle.rules.specs.Rule.{landingOf, faultOf}
 use Rattle.rules.proofs.Says.{layout-ends, length-says}
 use Rattle.rules.proofs.Lowest.{lowest}
-use Rattle.checker.specs.Lists.{firstFrom, First, sum}
+use Rattle.checker.specs.Lists.{firstFrom, First}
 use Rattle.checker.specs.Region.{roleAt, beforeAt, readingAt, nextAt}
 use Rattle.checker.specs.Standing.{targetAt, landingAt, landings, targetRole, faultAt, roleFrom, standingFault, Stands}
-use Rattle.checker.specs.Ledger.{Cleared, RolesWritten, Added}
+use Rattle.checker.specs.Ledger.{Cleared, RolesWritten, Within, fits, canMove, MovedFirst}
 use Rattle.checker.specs.Check.{wordsOf, codeFault, wordsVerdict, checkVerdict, entryOf, ledgerOf, ledgerAfter, Checked}
 use Rattle.checker.proofs.First.{first-same, first-value, first-end}
-use Rattle.checker.proofs.Lists.{sum-most, list-is}
-use Rattle.checker.proofs.Ledgers.{split, role-below}
+use Rattle.checker.proofs.Lists.{sum-most, all-yes, list-is}
+use Rattle.checker.proofs.Ledgers.{role-below}
+use Rattle.checker.proofs.Moving.{moved-all}
 
 -- ---- which rule a word breaks
 
@@ -132,9 +132,8 @@ landings-most l n bytes first k j = sum-most _ k (λ i. small (eqb (landingAt l 
     small true = omega arith
     small false = omega arith
 
-module _ (l : Layout) (code before clear′ roles after : List ℕ) (r : ℕ)
-    (n : length before ≡ wordsOf code) (c-length : length clear′ ≡ length before) (r-length : length roles ≡ length clear′) (a-length : length after ≡ length roles)
-    (cleared : Cleared before clear′) (written : RolesWritten code 0 0 (length code / 4) clear′ roles) (added : Added l code 0 (length code / 4) roles after r) where
+module _ (l : Layout) (code before clear′ roles : List ℕ) (n : length before ≡ wordsOf code) (c-length : length clear′ ≡ length before) (r-length : length roles ≡ length clear′)
+    (cleared : Cleared before clear′) (written : RolesWritten code 0 0 (length code / 4) clear′ roles) where
   -- an entry with no landing yet is its role
   role-entry : (i : ℕ) → i < wordsOf code → getD roles i 0 ≡ roleAt code i
   role-entry i h =
@@ -142,27 +141,28 @@ module _ (l : Layout) (code before clear′ roles after : List ℕ) (r : ℕ)
       ∙ ap (λ (x : ℕ). x / 4 * 4 + roleAt code i) (cleared .zero i (omega arith))
       ∙ zero-add (roleAt code i)
 
-  -- no count is ever full
-  all-added : r ≡ wordsOf code
-  all-added =
-      split (wordsOf code) r (λ h. let m = added .most in omega arith)
-      (λ h.
-      let full = added .full h in
-      let j = landingAt l (length roles) code 0 r in
-      let role = role-entry j (let f = full .0 in omega arith) in
-      let small = role-below code j in
-      let most = landings-most l (length roles) code 0 r j in
-      absurd (over (full .1) role small most h))
-    where
-      over : {x y z w : ℕ} → length roles ≤ x / 4 + y → x ≡ z → z < 4 → y ≤ w → w < wordsOf code → ⊥
-      over p q s m h = omega arith
+  none-counted : (i : ℕ) → i < length roles → getD roles i 0 / 4 ≡ 0
+  none-counted i h = let role = role-entry i (omega arith) in let small = role-below code i in omega arith
 
-  pub ledger-written : after ≡ ledgerOf l code
+  pub within-roles : Within roles
+  within-roles = record { most = λ i h. let none = none-counted i h in omega arith }
+
+  -- no count is ever full
+  room : canMove true roles (landings l (length roles) code 0 (wordsOf code)) ≡ true
+  unfolding canMove fits
+  room =
+      all-yes _ (length roles)
+      (λ i h.
+      let none = none-counted i h in
+      let most = landings-most l (length roles) code 0 (wordsOf code) i in
+      le-leb (getD roles i 0 / 4 + landings l (length roles) code 0 (wordsOf code) i) (length roles) (omega arith))
+
+  pub ledger-written : (after : List ℕ) (r : ℕ) → length after ≡ length roles → MovedFirst true l code 0 (length code / 4) roles after r → after ≡ ledgerOf l code
   unfolding ledgerOf entryOf
-  ledger-written =
+  ledger-written after r a-length p =
       let words : length roles ≡ wordsOf code = omega arith in
       list-is after _ (wordsOf code) (omega arith)
       (λ i h.
-      added .moved i (omega arith)
-      ∙ ap₂ (λ (x y : ℕ). x + 4 * y) (role-entry i h) (ap₂ (λ (m k : ℕ). landings l m code 0 k i) words all-added)
+      moved-all true l code 0 roles (wordsOf code) after r p room .yes′ refl i (omega arith)
+      ∙ ap₂ (λ (x y : ℕ). x + 4 * y) (role-entry i h) (ap (λ (m : ℕ). landings l m code 0 (wordsOf code) i) words)
       ∙ add-comm (roleAt code i) (4 * landings l (wordsOf code) code 0 (wordsOf code) i))

@@ -1,14 +1,15 @@
 -- The laws of `firstFrom`: it stays within its range, f is not zero where it stops short of the end and zero before, and a range may be cut.
 use Prim.Native.Nat.{ℕ, zero, suc, _+_, _-_, _≤_, _<_}
-use native.Mathlib.Nat.{add-zero, zero-add, suc-add, add-suc, le-refl, lt-of-not-le}
+use native.Mathlib.Nat.{add-zero, zero-add, suc-add, add-suc, le-refl}
 use native.Mathlib.Omega.{arith}
 use mathlib.Core.Path.{_≡_, _∙_, refl, sym, ap, ap₂, subst}
-use mathlib.Core.Bool.{Bool, true, false, cond}
-use lib.Dec.{eqb, ltb}
+use mathlib.Core.Bool.{cond}
+use lib.Dec.{eqb}
 use borrow.Author.Tests.{eqb-true, eqb-false, eq-eqb, ne-eqb, lt-ltb, le-ltb}
-use native.Mathlib.Decide.{ℕ-discrete, decLe}
+use native.Mathlib.Decide.{ℕ-discrete}
 use Rattle.decoder.proofs.Bools.{by-test}
 use Rattle.checker.specs.Lists.{firstFrom, First}
+use Rattle.checker.proofs.Lists.{split}
 
 module _ (f : ℕ → ℕ) where
   pub first-here : (i c : ℕ) → (f i ≡ 0 → ⊥) → firstFrom f i (suc c) ≡ i
@@ -96,10 +97,6 @@ first-none f i c h =
       | yes e ↦ e
       | no d ↦ absurd (first-hit f i c (omega arith) (h (firstFrom f i c) a (omega arith)))
     ]
-
--- one order or the other
-split : {P : Type 0} (a b : ℕ) → (a ≤ b → P) → (b < a → P) → P
-split a b f g = elim (decLe a b) [ yes h ↦ f h | no h ↦ g (lt-of-not-le h) ]
 
 -- the first, from what f is at each place
 pub found-at : (f : ℕ → ℕ) (i c s number : ℕ) → s < c → ((j : ℕ) → j < s → f (i + j) ≡ 0) → number ≡ f (i + s) → (number ≡ 0 → ⊥) → First f i c (i + s) number

@@ -22,9 +22,7 @@ use Rattle.checker.specs.Check.{wordsOf, codeFault, checkVerdict, entryO
 use Rattle.checker.specs.Patch.{shapeHolds, countsHold, rolesAgree, oldCounted, countLess, newFit, strandedAt, agrees, strandedVerdict, newWordsVerdict, movedEntry, movedLedger, bundlesVerdict, patchVerdict}
 use Rattle.checker.specs.Edit.{piece, edited, Fits}
 use Rattle.checker.proofs.First.{first-to, first-miss, first-none}
-use Rattle.checker.proofs.Lists.{list-is, list-length, list-at}
-use Rattle.checker.proofs.Ledgers.{split}
-use Rattle.checker.proofs.Moving.{all-yes}
+use Rattle.checker.proofs.Lists.{split, all-yes, list-is, list-length, list-at}
 use Rattle.checker.proofs.Checks.{landings-most}
 use Rattle.checker.proofs.Demands.{accepted-exactly, fault-meets, meets-fault, order-1, order-2, ledger-entries}
 use Rattle.checker.proofs.Edited.{role-same, edited-length}

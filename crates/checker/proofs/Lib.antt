@@ -1,10 +1,9 @@
 -- Laws that belong to no one function.
 pub mod Words
+pub mod Lists
 pub mod First
 pub mod Slots
-pub mod Lists
 pub mod Ledgers
-pub mod Taking
 pub mod Moving
 pub mod Exchange
 pub mod Undo

@@ -1,12 +1,21 @@
--- The laws of `sum` and `listOf`.
-use Prim.Native.Nat.{ℕ, zero, suc, _+_, _*_, _≤_, _<_}
-use native.Mathlib.Nat.{add-zero, zero-add, add-suc, suc-add, not-suc-le-zero, le-of-suc-le-suc, le-refl}
+-- One order of two numbers or the other; the laws of `sum`, `all` and `listOf`.
+use Prim.Native.Nat.{ℕ, zero, suc, _+_, _-_, _≤_, _<_}
+use native.Mathlib.Decide.{decLe}
+use native.Mathlib.Nat.{add-zero, zero-add, add-suc, suc-add, not-suc-le-zero, le-of-suc-le-suc, le-refl, lt-of-not-le}
 use native.Mathlib.Omega.{arith}
-use mathlib.Core.Path.{_≡_, _∙_, refl, sym, ap, ap₂}
+use mathlib.Core.Path.{_≡_, _∙_, refl, sym, ap, ap₂, subst}
+use mathlib.Core.Bool.{Bool, true, false, _&&_, true≢false}
 use mathlib.Core.List.{List}
 use lib.ListN.{length, getD}
 use lib.Seq.{ext-getD}
-use Rattle.checker.specs.Lists.{sum, listFrom, listOf}
+use Rattle.decoder.proofs.Bools.{both, by-test}
+use Rattle.checker.specs.Lists.{sum, all, listFrom, listOf}
+
+-- one order or the other
+pub split : {P : Type 0} (a b : ℕ) → (a ≤ b → P) → (b < a → P) → P
+split a b f g = elim (decLe a b) [ yes h ↦ f h | no h ↦ g (lt-of-not-le h) ]
+
+-- ---- `sum`
 
 pub sum-same : (f g : ℕ → ℕ) (n : ℕ) → ((k : ℕ) → k < n → f k ≡ g k) → sum f n ≡ sum g n
 unfolding sum
@@ -27,6 +36,37 @@ sum-cut f a (suc b) = let e = sum-cut f a b in ap (sum f) (add-suc a b) ∙ asso
   where
     assoc : (x y z w : ℕ) → x ≡ y + z → x + w ≡ y + (z + w)
     assoc x y z w e = omega arith
+
+-- and more terms are no less
+pub sum-more : (f : ℕ → ℕ) (a b : ℕ) → a ≤ b → sum f a ≤ sum f b
+sum-more f a b h =
+    let e : a + (b - a) ≡ b = omega arith in
+    let cut = sum-cut f a (b - a) in
+    subst (λ (x : ℕ). sum f a ≤ sum f x) e (omega arith)
+
+-- ---- `all`
+
+pub all-same : (f g : ℕ → Bool) (n : ℕ) → ((j : ℕ) → j < n → f j ≡ g j) → all f n ≡ all g n
+unfolding all
+all-same f g zero h = refl
+all-same f g (suc n) h = ap₂ _&&_ (all-same f g n (λ j k. h j (omega arith))) (h n (le-refl (suc n)))
+
+pub all-yes : (f : ℕ → Bool) (n : ℕ) → ((j : ℕ) → j < n → f j ≡ true) → all f n ≡ true
+unfolding all
+all-yes f zero h = refl
+all-yes f (suc n) h = let a = all-yes f n (λ j k. h j (omega arith)) in let b = h n (le-refl (suc n)) in simp (a, b)
+
+pub all-at : (f : ℕ → Bool) (n : ℕ) → all f n ≡ true → (j : ℕ) → j < n → f j ≡ true
+unfolding all
+all-at f zero e j h = absurd (not-suc-le-zero h)
+all-at f (suc n) e j h =
+    let p = both (all f n) (f n) e in
+    split (suc j) n (λ k. all-at f n (p .0) j k) (λ k. let same : j ≡ n = omega arith in ap f same ∙ p .1)
+
+pub all-no : (f : ℕ → Bool) (n j : ℕ) → j < n → f j ≡ false → all f n ≡ false
+all-no f n j h e = by-test (all f n) (λ t. absurd (true≢false (sym (all-at f n t j h) ∙ e))) (λ t. t)
+
+-- ---- `listOf`
 
 from-length : (f : ℕ → ℕ) (i n : ℕ) → length (listFrom f i n) ≡ n
 unfolding listFrom

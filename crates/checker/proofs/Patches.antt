@@ -26,8 +26,7 @@ use Rattle.checker.specs.Check.{wordsOf, ledgerAfter}
 use Rattle.checker.specs.Patch.{shapeHolds, countsHold, rolesAgree, oldCounted, countLess, newFit, strandedAt, agrees, strandedVerdict, newWordsVerdict, movedEntry, movedLedger, bundlesVerdict, patchVerdict, Patched}
 use Rattle.checker.specs.PatchParts.{Exchanges, BothStand, PatchedWords}
 use Rattle.checker.proofs.First.{first-value, first-end}
-use Rattle.checker.proofs.Lists.{list-is}
-use Rattle.checker.proofs.Ledgers.{split}
+use Rattle.checker.proofs.Lists.{split, list-is}
 use Rattle.checker.proofs.Undo.{count-after, off-counted}
 
 module _ (l : Layout) (ledger : List ℕ) (first : ℕ) (old new : List ℕ) where

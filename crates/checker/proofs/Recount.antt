@@ -19,8 +19,7 @@ use Rattle.checker.specs.Region.{readingAt}
 use Rattle.checker.specs.Standing.{targetAt, landingAt, landings}
 use Rattle.checker.specs.Check.{wordsOf}
 use Rattle.checker.specs.Edit.{piece, edited}
-use Rattle.checker.proofs.Lists.{sum-same, sum-cut, list-length, list-at}
-use Rattle.checker.proofs.Ledgers.{split, hit}
+use Rattle.checker.proofs.Lists.{split, sum-same, sum-cut, list-length, list-at}
 use Rattle.checker.proofs.Edited.{SameWord, reading-same, word-in, word-out, word-low, edited-length, bundle-same}
 
 pub target-same : (l : Layout) (n : ℕ) (xs : List ℕ) (a j : ℕ) (ys : List ℕ) (b k : ℕ) → SameWord xs j ys k → a + j ≡ b + k → targetAt l n xs a j ≡ targetAt l n ys b k

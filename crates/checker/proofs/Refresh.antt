@@ -19,7 +19,9 @@ use Rattle.checker.specs.Standing.{targetAt, landingAt, landings, target
 use Rattle.checker.specs.Check.{wordsOf, codeFault, ledgerOf}
 use Rattle.checker.specs.Patch.{countLess, strandedAt}
 use Rattle.checker.specs.Edit.{piece, edited}
-use Rattle.checker.proofs.Ledgers.{split, role-below, hit}
+use Rattle.checker.proofs.Lists.{split}
+use Rattle.checker.proofs.Ledgers.{role-below}
+use Rattle.checker.proofs.Moving.{hit}
 use Rattle.checker.proofs.Checks.{fault-same}
 use Rattle.checker.proofs.Demands.{ledger-entries}
 use Rattle.checker.proofs.Edited.{SameWord, reading-same, before-same, next-same, role-same, word-in, word-out, word-low, edited-length}

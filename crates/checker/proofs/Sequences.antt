@@ -11,8 +11,7 @@ use Rattle.rules.specs.Outcome.{Verdict, accepted, refused, refusedAt}
 use Rattle.checker.specs.Check.{wordsOf, checkVerdict, ledgerOf, ledgerAfter}
 use Rattle.checker.specs.Patch.{movedLedger, patchVerdict}
 use Rattle.checker.specs.Edit.{piece, edited, Edit, Fits, AllFit, standing, answer, codeThen, ledgerThen, whole-edit, AsFresh, AllAsFresh}
-use Rattle.checker.proofs.Lists.{list-length, list-at}
-use Rattle.checker.proofs.Ledgers.{split}
+use Rattle.checker.proofs.Lists.{split, list-length, list-at}
 use Rattle.checker.proofs.Edited.{edited-length, edited-in, edited-below, edited-above}
 use Rattle.checker.proofs.Fresh.{refused-not, refused-at-not, exactly-fresh, fresh-ledger, never-13}
 

@@ -13,7 +13,7 @@ use Rattle.checker.specs.Standing.{landings}
 use Rattle.checker.specs.Ledger.{Within, Swapped}
 use Rattle.checker.specs.Patch.{oldCounted, countLess, newFit}
 use Rattle.checker.specs.PatchParts.{Exchanges}
-use Rattle.checker.proofs.Moving.{all-yes, all-at}
+use Rattle.checker.proofs.Lists.{all-yes, all-at}
 
 moved-count : (a x o p : ℕ) → a + 4 * o ≡ x + 4 * p → o ≤ x / 4 → a / 4 ≡ x / 4 - o + p
 moved-count a x o p h k = omega arith

@@ -1,5 +1,5 @@
 -- What the parts of the two calls that write the ledger do to it. An entry is 4 x count + role.
-use Prim.Native.Nat.{ℕ, _+_, _-_, _*_, _/_, _≤_, _<_}
+use Prim.Native.Nat.{ℕ, _+_, _*_, _/_, _≤_, _<_}
 use mathlib.Core.Path.{_≡_}
 use mathlib.Core.Bool.{Bool, true, false, cond}
 use mathlib.Core.List.{List}
@@ -8,7 +8,7 @@ use lib.ListN.{length, getD}
 use Rattle.rules.specs.declared.layout.Layout.{Layout}
 use Rattle.checker.specs.Lists.{all}
 use Rattle.checker.specs.Region.{roleAt}
-use Rattle.checker.specs.Standing.{landingAt, landings}
+use Rattle.checker.specs.Standing.{landings}
 
 -- every entry is 0
 pub record Cleared (before after : List ℕ) : Type 0 where
@@ -20,49 +20,39 @@ pub record RolesWritten (bytes : List ℕ) (first from to : ℕ) (before after :
   pub inside : (k : ℕ) → from ≤ k → k < to → getD after (first + k) 0 ≡ getD before (first + k) 0 / 4 * 4 + roleAt bytes k
   pub above : (i : ℕ) → first + to ≤ i → getD after i 0 ≡ getD before i 0
 
--- one landing more on word j, or none where there is no word j; refused where its count is the number of words
-pub record Raised (j : ℕ) (before after : List ℕ) (r : Bool) : Type 0 where
-  pub more : r ≡ true → (i : ℕ) → i < length before → getD after i 0 ≡ getD before i 0 + 4 * cond (eqb j i) 1 0
-  pub room : r ≡ true → j < length before → getD before j 0 / 4 < length before
-  pub full : r ≡ false → (after ≡ before) × (j < length before) × (length before ≤ getD before j 0 / 4)
-
--- the landings of the first r words are added, and r is all of the words asked for, or the first whose landing finds the count full
-pub record Added (l : Layout) (bytes : List ℕ) (first asked : ℕ) (before after : List ℕ) (r : ℕ) : Type 0 where
-  pub most : r ≤ asked
-  pub moved : (i : ℕ) → i < length before → getD after i 0 ≡ getD before i 0 + 4 * landings l (length before) bytes first r i
-  pub within : ((i : ℕ) → i < length before → getD before i 0 / 4 ≤ length before) → (i : ℕ) → i < length before → getD after i 0 / 4 ≤ length before
-  pub full : r < asked
-      → (landingAt l (length before) bytes first r < length before)
-      × (length before ≤ getD before (landingAt l (length before) bytes first r) 0 / 4 + landings l (length before) bytes first r (landingAt l (length before) bytes first r))
-
--- one landing less on word j, or none where there is no word j; refused where its count is 0
-pub record Lowered (j : ℕ) (before after : List ℕ) (r : Bool) : Type 0 where
-  pub less : r ≡ true → (i : ℕ) → i < length before → getD before i 0 ≡ getD after i 0 + 4 * cond (eqb j i) 1 0
-  pub none : r ≡ false → (after ≡ before) × (j < length before) × (getD before j 0 < 4)
-
--- the landings of the first r words are taken off, and r is all of the words asked for, or the first whose landing finds no count
-pub record Taken (l : Layout) (bytes : List ℕ) (first asked : ℕ) (before after : List ℕ) (r : ℕ) : Type 0 where
-  pub most : r ≤ asked
-  pub moved : (i : ℕ) → i < length before → getD before i 0 ≡ getD after i 0 + 4 * landings l (length before) bytes first r i
-  pub none : r < asked
-      → (landingAt l (length before) bytes first r < length before)
-      × (getD before (landingAt l (length before) bytes first r) 0 / 4 ≤ landings l (length before) bytes first r (landingAt l (length before) bytes first r))
-
--- all the landings of the bytes are taken off, where no count would fall below 0; else nothing is changed
-pub record TakenAll (l : Layout) (bytes : List ℕ) (first : ℕ) (before after : List ℕ) (r : Bool) : Type 0 where
-  pub answer : r ≡ all (λ j. leb (landings l (length before) bytes first (length bytes / 4) j) (getD before j 0 / 4)) (length before)
-  pub yes′ : r ≡ true → (i : ℕ) → i < length before → getD before i 0 ≡ getD after i 0 + 4 * landings l (length before) bytes first (length bytes / 4) i
-  pub no′ : r ≡ false → after ≡ before
-
--- all the landings of the bytes are added, where no count would exceed the number of words; else nothing is changed
-pub record AddedAll (l : Layout) (bytes : List ℕ) (first : ℕ) (before after : List ℕ) (r : Bool) : Type 0 where
-  pub answer : r ≡ all (λ j. leb (getD before j 0 / 4 + landings l (length before) bytes first (length bytes / 4) j) (length before)) (length before)
-  pub yes′ : r ≡ true → (i : ℕ) → i < length before → getD after i 0 ≡ getD before i 0 + 4 * landings l (length before) bytes first (length bytes / 4) i
-  pub no′ : r ≡ false → after ≡ before
-
 -- each count is at most the number of words
 pub record Within (ledger : List ℕ) : Type 0 where
   pub most : (i : ℕ) → i < length ledger → getD ledger i 0 / 4 ≤ length ledger
+
+-- ---- landings moved: put on where `on`, else taken off
+
+-- an entry afterwards: c landings more, or c less
+abbrev pub moves : Bool → ℕ → ℕ → ℕ → Type 0
+moves on before after c = cond on after before ≡ cond on before after + 4 * c
+
+-- its count then stays between 0 and the number of words n
+unfoldable pub fits : Bool → ℕ → ℕ → ℕ → Bool
+fits on n entry c = cond on (leb (entry / 4 + c) n) (leb c (entry / 4))
+
+-- so do all the counts of a ledger, where c i landings of word i are moved
+unfoldable pub canMove : Bool → List ℕ → (ℕ → ℕ) → Bool
+canMove on ledger c = all (λ i. fits on (length ledger) (getD ledger i 0) (c i)) (length ledger)
+
+-- one landing on word j, and none on another
+abbrev pub oneOn : ℕ → ℕ → ℕ
+oneOn j i = cond (eqb j i) 1 0
+
+-- the landings are moved, where all the counts stay so; else nothing is changed
+pub record Moved (on : Bool) (c : ℕ → ℕ) (before after : List ℕ) (r : Bool) : Type 0 where
+  pub answer : r ≡ canMove on before c
+  pub yes′ : r ≡ true → (i : ℕ) → i < length before → moves on (getD before i 0) (getD after i 0) (c i)
+  pub no′ : r ≡ false → after ≡ before
+
+-- the landings of the first r words are moved; r is all of the words asked for, or the first whose landing finds a count at its bound
+pub record MovedFirst (on : Bool) (l : Layout) (bytes : List ℕ) (first asked : ℕ) (before after : List ℕ) (r : ℕ) : Type 0 where
+  pub most : r ≤ asked
+  pub moved : Moved on (landings l (length before) bytes first r) before after true
+  pub stop : r < asked → canMove on before (landings l (length before) bytes first (r + 1)) ≡ false
 
 -- the old bundles' branches off and the new ones' on, entry by entry
 pub record Swapped (l : Layout) (old new : List ℕ) (first : ℕ) (before after : List ℕ) : Type 0 where

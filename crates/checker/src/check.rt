@@ -1,7 +1,7 @@
 // The check call.
 use crate::fault::first_fault;
-use crate::ledger::add_landings;
 use crate::ledger::clear;
+use crate::ledger::move_landings;
 use crate::ledger::write_roles;
 use rules::layout::Layout;
 use rules::layout::layout_holds;
@@ -39,7 +39,7 @@ fn write_ledger(layout: Layout, code: &[u8], ledger: &mut [u32])
 {
     clear(ledger);
     write_roles(layout, ledger, code, 0);
-    add_landings(layout, ledger, code, 0, code.len() / 4);
+    move_landings(layout, ledger, code, 0, code.len() / 4, true);
 }
 
 // Accepts the region exactly where every word meets the rules, and then writes its ledger. A refusal

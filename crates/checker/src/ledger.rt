@@ -6,10 +6,10 @@ use pairs::role::roles;
 use rules::layout::Layout;
 use rules::rule::landing;
 ghost use mathlib.Core.Path.{_≡_};
-ghost use Prim.Native.Nat.{_+_, _*_, _/_, _%_, _^_, _≤_, _<_};
+ghost use Prim.Native.Nat.{_+_, _*_, _/_, _^_, _≤_, _<_};
 ghost use lib.ListN.{length, getD, set};
 ghost use Rattle.checker.specs.Standing.{landingAt, Stands};
-ghost use Rattle.checker.specs.Ledger.{Cleared, RolesWritten, Raised, Added, Lowered, Taken};
+ghost use Rattle.checker.specs.Ledger.{Cleared, RolesWritten, Within, oneOn, Moved, MovedFirst};
 
 pub(crate) fn clear(ledger: &mut [u32])
     ensures { λ _. ⌜ Cleared (now (ledger .entry)) (now (ledger .exit)) ⌝ }
@@ -71,77 +71,43 @@ pub(crate) fn landing_at(
     landing(layout, words, direct_target(reading_at(bytes, k), address))
 }
 
-// One landing more on word j, if there is one. False where its count is the number of words.
-fn raise(ledger: &mut [u32], j: usize) -> bool
-    requires { ⌜ length (now ledger) ≤ 2 ^ 28 ⌝ }
-    ensures { λ r. ⌜ Raised j (now (ledger .entry)) (now (ledger .exit)) r ⌝ }
+// One landing put on word j, or taken off it, if there is such a word. False where its count is at its
+// bound: the number of words, or 0.
+fn move_landing(ledger: &mut [u32], j: usize, on: bool) -> bool
+    requires { ⌜ (length (now ledger) ≤ 2 ^ 28) × (Within (now ledger)) ⌝ }
+    ensures { λ r. ⌜ Moved on (oneOn j) (now (ledger .entry)) (now (ledger .exit)) r ⌝ }
 {
     let words = ledger.len();
     if words <= j {
         return true;
     }
     let entry = ledger[j];
-    if words <= (entry / 4) as usize {
+    let bound = if on { words } else { 0 };
+    if (entry / 4) as usize == bound {
         return false;
     }
-    ledger[j] = entry + 4;
+    ledger[j] = if on { entry + 4 } else { entry - 4 };
     true
 }
 
-// The landings of the first words of the bytes are added, up to one that finds a count full.
-pub(crate) fn add_landings(
+// The landings of the first words of the bytes are put on, or taken off, up to one that finds a count at
+// its bound.
+pub(crate) fn move_landings(
     layout: Layout,
     ledger: &mut [u32],
     bytes: &[u8],
     first: usize,
     asked: usize,
+    on: bool,
 ) -> usize
-    requires { ⌜ (Stands layout (length (now ledger)) (now bytes) first) × (asked ≤ length (now bytes) / 4) ⌝ }
-    ensures { λ r. ⌜ Added layout (now (bytes .entry)) first asked (now (ledger .entry)) (now (ledger .exit)) r ⌝ }
+    requires { ⌜ (Stands layout (length (now ledger)) (now bytes) first) × (Within (now ledger)) × (asked ≤ length (now bytes) / 4) ⌝ }
+    ensures { λ r. ⌜ MovedFirst on layout (now (bytes .entry)) first asked (now (ledger .entry)) (now (ledger .exit)) r ⌝ }
 {
     let words = ledger.len();
     let mut k: usize = 0;
     while k < asked {
         let j = landing_at(layout, words, bytes, first, k);
-        if !raise(ledger, j) {
-            return k;
-        }
-        k += 1;
-    }
-    k
-}
-
-// One landing less on word j, if there is one. False where its count is 0.
-fn lower(ledger: &mut [u32], j: usize) -> bool
-    ensures { λ r. ⌜ Lowered j (now (ledger .entry)) (now (ledger .exit)) r ⌝ }
-{
-    if ledger.len() <= j {
-        return true;
-    }
-    let entry = ledger[j];
-    if entry < 4 {
-        return false;
-    }
-    ledger[j] = entry - 4;
-    true
-}
-
-// The landings of the first words of the bytes are taken off, up to one that finds no count.
-pub(crate) fn take_landings(
-    layout: Layout,
-    ledger: &mut [u32],
-    bytes: &[u8],
-    first: usize,
-    asked: usize,
-) -> usize
-    requires { ⌜ (Stands layout (length (now ledger)) (now bytes) first) × (asked ≤ length (now bytes) / 4) ⌝ }
-    ensures { λ r. ⌜ Taken layout (now (bytes .entry)) first asked (now (ledger .entry)) (now (ledger .exit)) r ⌝ }
-{
-    let words = ledger.len();
-    let mut k: usize = 0;
-    while k < asked {
-        let j = landing_at(layout, words, bytes, first, k);
-        if !lower(ledger, j) {
+        if !move_landing(ledger, j, on) {
             return k;
         }
         k += 1;

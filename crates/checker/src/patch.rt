@@ -3,8 +3,7 @@
 // refused: a pass over the ledger, and a few over the patch.
 use crate::check::reason;
 use crate::fault::first_fault;
-use crate::ledger::add_landings;
-use crate::ledger::take_landings;
+use crate::ledger::move_landings;
 use crate::ledger::write_roles;
 use crate::region::role_at;
 use rules::layout::Layout;
@@ -20,34 +19,20 @@ ghost use lib.ListN.{length, getD};
 ghost use Rattle.rules.specs.Layout.{addressOf};
 ghost use Rattle.checker.specs.Lists.{firstFrom};
 ghost use Rattle.checker.specs.Standing.{landings, Stands};
-ghost use Rattle.checker.specs.Ledger.{Within, TakenAll, AddedAll, Swapped};
+ghost use Rattle.checker.specs.Ledger.{Within, Moved};
 ghost use Rattle.checker.specs.Patch.{countsHold, rolesAgree, strandedAt, shapeHolds, Patched};
 ghost use Rattle.checker.specs.PatchParts.{countAt, Exchanges, BothStand, PatchedWords};
 
-// All the landings of the bytes are taken off; where a count would fall below 0, nothing is changed.
-fn take_all(layout: Layout, ledger: &mut [u32], bytes: &[u8], first: usize) -> bool
-    requires { ⌜ (Stands layout (length (now ledger)) (now bytes) first) × (Within (now ledger)) ⌝ }
-    ensures { λ r. ⌜ TakenAll layout (now (bytes .entry)) first (now (ledger .entry)) (now (ledger .exit)) r ⌝ }
-{
-    let words = bytes.len() / 4;
-    let taken = take_landings(layout, ledger, bytes, first, words);
-    if taken < words {
-        add_landings(layout, ledger, bytes, first, taken);
-        return false;
-    }
-    true
-}
-
-// All the landings of the bytes are added; where a count would exceed the number of words, nothing is
+// All the landings of the bytes are put on, or taken off; where a count would pass its bound, nothing is
 // changed.
-fn add_all(layout: Layout, ledger: &mut [u32], bytes: &[u8], first: usize) -> bool
+fn move_all(layout: Layout, ledger: &mut [u32], bytes: &[u8], first: usize, on: bool) -> bool
     requires { ⌜ (Stands layout (length (now ledger)) (now bytes) first) × (Within (now ledger)) ⌝ }
-    ensures { λ r. ⌜ AddedAll layout (now (bytes .entry)) first (now (ledger .entry)) (now (ledger .exit)) r ⌝ }
+    ensures { λ r. ⌜ Moved on (landings layout (length (now (ledger .entry))) (now (bytes .entry)) first (length (now (bytes .entry)) / 4)) (now (ledger .entry)) (now (ledger .exit)) r ⌝ }
 {
     let words = bytes.len() / 4;
-    let added = add_landings(layout, ledger, bytes, first, words);
-    if added < words {
-        take_landings(layout, ledger, bytes, first, added);
+    let moved = move_landings(layout, ledger, bytes, first, words, on);
+    if moved < words {
+        move_landings(layout, ledger, bytes, first, moved, !on);
         return false;
     }
     true
@@ -127,17 +112,17 @@ fn exchange(layout: Layout, ledger: &mut [u32], old: &[u8], new: &[u8], first: u
     requires { ⌜ (BothStand layout (length (now ledger)) (now old) (now new) first) × (Within (now ledger)) ⌝ }
     ensures { λ r. ⌜ Exchanges layout (now (old .entry)) (now (new .entry)) first (now (ledger .entry)) (now (ledger .exit)) (r .ok) (r .strand) ⌝ }
 {
-    if !take_all(layout, ledger, old, first) {
+    if !move_all(layout, ledger, old, first, false) {
         return Exchanged {
             ok: false,
             strand: 0,
         };
     }
     let strand = first_stranded(ledger, new, first);
-    if add_all(layout, ledger, new, first) {
+    if move_all(layout, ledger, new, first, true) {
         return Exchanged { ok: true, strand };
     }
-    add_all(layout, ledger, old, first);
+    move_all(layout, ledger, old, first, true);
     Exchanged { ok: false, strand }
 }
 

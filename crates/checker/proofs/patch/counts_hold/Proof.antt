@@ -8,7 +8,7 @@ use lib.ListN.{length, getD, set, length-set}
 use borrow.Author.Tests.{le-leb, lt-leb}
 use borrow.Author.Count.{below-more}
 use Rattle.checker.specs.Patch.{countsHold}
-use Rattle.checker.proofs.Moving.{all-yes, all-no}
+use Rattle.checker.proofs.Lists.{all-yes, all-no}
 use Rattle.checker.proofs.patch.counts_hold.Statement.{statement}
 use Rattle.checker.proofs.patch.counts_hold.Tie as tie
 

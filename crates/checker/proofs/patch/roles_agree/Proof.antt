@@ -9,7 +9,7 @@ use borrow.Author.Tests.{eq-eqb, ne-eqb}
 use borrow.Author.Count.{below-more}
 use Rattle.checker.specs.Region.{roleAt}
 use Rattle.checker.specs.Patch.{rolesAgree}
-use Rattle.checker.proofs.Moving.{all-yes, all-no}
+use Rattle.checker.proofs.Lists.{all-yes, all-no}
 use Rattle.checker.proofs.patch.roles_agree.Statement.{statement}
 use Rattle.checker.proofs.patch.roles_agree.Tie as tie
 
