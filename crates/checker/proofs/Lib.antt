@@ -13,7 +13,6 @@ pub mod Edited
 pub mod Recount
 pub mod Landing
 pub mod Checks
-pub mod Outcomes
 pub mod Demands
 pub mod Refresh
 pub mod Fresh

@@ -2,4 +2,5 @@
 pub mod Tests
 pub mod Says
 pub mod Lowest
+pub mod Reasons
 pub mod Unique
