@@ -15,7 +15,7 @@ use Rattle.rules.specs.declared.outcome.Reason.{Reason}
 use Rattle.rules.specs.declared.outcome.Reason.the-variants.{Layout as LayoutBroken, CodeLength, LedgerLength}
 use Rattle.rules.specs.declared.outcome.Outcome.the-variants.{Accepted, Refused}
 use Rattle.rules.specs.Layout.{layoutHolds, lengthHolds, addressOf}
-use Rattle.rules.specs.Outcome.{Verdict, accepted, refusedAt, reasonVerdict, verdictOf}
+use Rattle.rules.specs.Outcome.{Verdict, accepted, refused, refusedAt, reasonVerdict}
 use Rattle.rules.specs.Rule.{landingOf, faultOf}
 use Rattle.rules.proofs.Says.{layout-ends, length-says}
 use Rattle.rules.proofs.Lowest.{lowest}
@@ -58,17 +58,17 @@ same-fault l ledger code e k =
 
 module _ (l : Layout) (code before : List ℕ) where
   pub checked-1 : layoutHolds l (length code) ≡ false → Checked l code before before (Refused LayoutBroken)
-  unfolding checkVerdict verdictOf reasonVerdict ledgerAfter
+  unfolding checkVerdict ledgerAfter
   checked-1 e = record { verdict = sym (simp e); ledger = sym (simp e) }
 
   module _ (e1 : layoutHolds l (length code) ≡ true) where
     pub checked-2 : lengthHolds (length code) ≡ false → Checked l code before before (Refused CodeLength)
-    unfolding checkVerdict verdictOf reasonVerdict ledgerAfter
+    unfolding checkVerdict ledgerAfter
     checked-2 e = record { verdict = sym (simp (e1, e)); ledger = sym (simp (e1, e)) }
 
     module _ (e2 : lengthHolds (length code) ≡ true) where
       pub checked-3 : (length before ≡ wordsOf code → ⊥) → Checked l code before before (Refused LedgerLength)
-      unfolding checkVerdict verdictOf reasonVerdict ledgerAfter
+      unfolding checkVerdict ledgerAfter
       checked-3 n = let e = ne-eqb _ _ n in record { verdict = sym (simp (e1, e2, e)); ledger = sym (simp (e1, e2, e)) }
 
       module _ (e3 : length before ≡ wordsOf code) where
@@ -108,14 +108,14 @@ module _ (l : Layout) (code before : List ℕ) where
                 subst (λ (x : ℕ). (4 ≤ x) × (x ≤ 11)) (sym e) (low .from-4, low .to-11)
 
             pub checked-word : (reason : Reason) → reasonVerdict reason ≡ refusedAt number (addressOf l at) → Checked l code before before (Refused reason)
-            unfolding wordsVerdict verdictOf ledgerAfter
+            unfolding wordsVerdict ledgerAfter
             checked-word reason e =
                 let words : checkVerdict l code (length before) ≡ refusedAt number (addressOf l at) =
                 by-words ∙ rw (← first-is) (simp (lt-ltb at (wordsOf code) found-inside) (ap (λ (x : ℕ). refusedAt x (addressOf l at)) (sym found-number))) in
                 record { verdict = e ∙ sym words; ledger = sym (ap (λ (v : Verdict). ledgerAfter v (ledgerOf l code) before) words) }
 
           pub checked-all : number ≡ 0 → (after : List ℕ) → after ≡ ledgerOf l code → Checked l code before after Accepted
-          unfolding wordsVerdict verdictOf ledgerAfter
+          unfolding wordsVerdict ledgerAfter
           checked-all z after e =
               let end = first-end (standingFault l before code 0) 0 (length code / 4) at number found z in
               let top : firstFrom (codeFault l code) 0 (wordsOf code) ≡ wordsOf code = sym first-is ∙ found .place ∙ end ∙ zero-add (wordsOf code) in

@@ -6,11 +6,11 @@ use native.Mathlib.Nat.{zero-add}
 use native.Mathlib.Omega.{arith}
 use mathlib.Core.Path.{_≡_, _∙_, refl, sym, ap, subst}
 use mathlib.Core.Logic.{_↔_}
-use mathlib.Core.Bool.{Bool, true, false, not, _&&_, _||_, cond, true≢false, false≢true}
+use mathlib.Core.Bool.{true, false, true≢false}
 use mathlib.Core.List.{List}
-use lib.Dec.{eqb, ltb, leb}
+use lib.Dec.{ltb}
 use lib.ListN.{length, getD}
-use borrow.Author.Tests.{eq-eqb, ne-eqb, lt-ltb, le-ltb, ltb-true, ltb-false, eqb-true}
+use borrow.Author.Tests.{eq-eqb, ne-eqb, lt-ltb, le-ltb, ltb-true, ltb-false}
 use Rattle.pairs.specs.Role.{plain, inner, rolesOf}
 use Rattle.pairs.specs.Pair.{isPair}
 use Rattle.decoder.proofs.Bools.{by-test}
@@ -19,10 +19,9 @@ use Rattle.pairs.proofs.Plain.{plain-before-inner}
 use Rattle.pairs.proofs.Apart.{no-two-pairs}
 use Rattle.rules.specs.declared.layout.Layout.{Layout}
 use Rattle.rules.specs.declared.outcome.Outcome.{Outcome}
-use Rattle.rules.specs.declared.outcome.Reason.{Reason}
-use Rattle.rules.specs.declared.outcome.Reason.the-variants.{Layout as LayoutBroken, CodeLength, LedgerLength, NoClass, Register, StackPointer, Access, RegisterBranch, Call, LiteralLoad, Target, PatchShape, Disagreement, Stranded}
 use Rattle.rules.specs.Layout.{layoutHolds, lengthHolds, addressOf}
-use Rattle.rules.specs.Outcome.{Verdict, accepted, refused, refusedAt, reasonVerdict, verdictOf, numberOf, carriesAddress}
+use Rattle.rules.specs.Outcome.{Verdict, accepted, refused, refusedAt, verdictOf}
+use Rattle.rules.proofs.Reasons.{verdict-tells}
 use Rattle.rules.proofs.Lowest.{fault-none, none-fault, lowest, lowest-is}
 use Rattle.checker.specs.Lists.{firstFrom}
 use Rattle.checker.specs.Region.{bundleWords, bundleAt, readingAt, beforeAt, nextAt, roleAt}
@@ -31,7 +30,6 @@ use Rattle.checker.specs.Check.{wordsOf, codeFault, wordBreaks, wordsVer
 use Rattle.checker.specs.Patch.{movedLedger, patchVerdict, Patched}
 use Rattle.checker.proofs.First.{first-to, first-hit, first-miss, first-none, found-at}
 use Rattle.checker.proofs.Lists.{list-length, list-at}
-use Rattle.checker.proofs.Outcomes.{verdict-tells}
 
 module _ (l : Layout) (code : List ℕ) where
   -- word k meets every rule
@@ -182,24 +180,6 @@ module _ (l : Layout) (code : List ℕ) where
     pub order-3 : layoutHolds l (length code) ≡ true → lengthHolds (length code) ≡ true → (entries ≡ wordsOf code → ⊥) → checkVerdict l code entries ≡ refused 3
     unfolding checkVerdict
     order-3 e1 e2 d = simp (e1, e2, ne-eqb entries (wordsOf code) d)
-
--- 4 to 11 and 14 carry an address, the others none
-pub carries-exactly : (r : Reason) → carriesAddress (reasonVerdict r) ≡ ((leb 4 (numberOf (reasonVerdict r)) && leb (numberOf (reasonVerdict r)) 11) || eqb (numberOf (reasonVerdict r)) 14)
-unfolding carriesAddress reasonVerdict numberOf
-carries-exactly LayoutBroken = refl
-carries-exactly CodeLength = refl
-carries-exactly LedgerLength = refl
-carries-exactly (NoClass at) = refl
-carries-exactly (Register at) = refl
-carries-exactly (StackPointer at) = refl
-carries-exactly (Access at) = refl
-carries-exactly (RegisterBranch at) = refl
-carries-exactly (Call at) = refl
-carries-exactly (LiteralLoad at) = refl
-carries-exactly (Target at) = refl
-carries-exactly PatchShape = refl
-carries-exactly Disagreement = refl
-carries-exactly (Stranded at) = refl
 
 -- ---- Of any region, and so of an accepted one
 

@@ -2,7 +2,7 @@
 pub mod Words
 pub mod Lists
 pub mod First
-pub mod Slots
+pub mod Lists
 pub mod Ledgers
 pub mod Moving
 pub mod Exchange
@@ -12,7 +12,6 @@ pub mod Edited
 pub mod Recount
 pub mod Landing
 pub mod Checks
-pub mod Outcomes
 pub mod Demands
 pub mod Refresh
 pub mod Fresh

@@ -15,7 +15,7 @@ use Rattle.rules.specs.declared.outcome.Outcome.{Outcome}
 use Rattle.rules.specs.declared.outcome.Reason.the-variants.{Layout as LayoutBroken, CodeLength, PatchShape, Disagreement, Stranded}
 use Rattle.rules.specs.declared.outcome.Outcome.the-variants.{Accepted, Refused}
 use Rattle.rules.specs.Layout.{layoutHolds, lengthHolds, addressOf}
-use Rattle.rules.specs.Outcome.{Verdict, accepted, refused, refusedAt, reasonVerdict, verdictOf}
+use Rattle.rules.specs.Outcome.{Verdict, accepted, refused, refusedAt, reasonVerdict}
 use Rattle.rules.proofs.Says.{layout-ends}
 use Rattle.rules.proofs.Lowest.{lowest}
 use Rattle.checker.specs.Lists.{firstFrom, First}
@@ -35,7 +35,6 @@ module _ (l : Layout) (ledger : List ℕ) (first : ℕ) (old new : List ℕ) whe
 
   -- a refusal, with nothing changed
   refused-so : (reason : Reason) → verdict ≡ reasonVerdict reason → ((a b : List ℕ) → ledgerAfter (reasonVerdict reason) a b ≡ b) → (after : List ℕ) → after ≡ ledger → PatchedWords l ledger first old new after old (Refused reason)
-  unfolding verdictOf
   refused-so reason v keeps after same =
       record {
         verdict = sym v;
@@ -46,7 +45,7 @@ module _ (l : Layout) (ledger : List ℕ) (first : ℕ) (old new : List ℕ) whe
   -- ---- 13
 
   pub disagreed : agrees l ledger first old new ≡ false → PatchedWords l ledger first old new ledger old (Refused Disagreement)
-  unfolding bundlesVerdict reasonVerdict ledgerAfter
+  unfolding bundlesVerdict ledgerAfter
   disagreed e = refused-so Disagreement (simp e) (λ a b. refl) ledger refl
 
   pub counts-disagree : countsHold ledger ≡ false → agrees l ledger first old new ≡ false
@@ -99,12 +98,12 @@ module _ (l : Layout) (ledger : List ℕ) (first : ℕ) (old new : List ℕ) whe
           by-words ∙ rw top (simp (le-ltb (wordsOf new) (wordsOf new) (omega arith)))
 
       pub stranded : (after : List ℕ) → strand < wordsOf new → after ≡ ledger → PatchedWords l ledger first old new after old (Refused (Stranded (addressOf l (first + strand))))
-      unfolding strandedVerdict ledgerAfter reasonVerdict
+      unfolding strandedVerdict ledgerAfter
       stranded after h same =
           refused-so (Stranded (addressOf l (first + strand))) (by-strand ∙ rw (← place) (simp (lt-ltb strand (wordsOf new) h))) (λ a b. refl) after same
 
       pub patched : (after bytes : List ℕ) → wordsOf new ≤ strand → after ≡ movedLedger l ledger first old new → bytes ≡ new → PatchedWords l ledger first old new after bytes Accepted
-      unfolding strandedVerdict ledgerAfter verdictOf
+      unfolding strandedVerdict ledgerAfter
       patched after bytes h moved written =
           let v : verdict ≡ accepted = by-strand ∙ rw (← place) (simp (le-ltb strand (wordsOf new) h)) in
           record {
@@ -181,17 +180,17 @@ module _ (l : Layout) (ledger : List ℕ) (first : ℕ) (old new mid after : Lis
 
 module _ (l : Layout) (ledger : List ℕ) (offset : ℕ) (old new : List ℕ) where
   pub patched-1 : layoutHolds l (4 * length ledger) ≡ false → Patched l ledger offset old new ledger old (Refused LayoutBroken)
-  unfolding patchVerdict verdictOf reasonVerdict ledgerAfter
+  unfolding patchVerdict ledgerAfter
   patched-1 e = record { verdict = sym (simp e); ledger′ = sym (simp e); bytes = sym (simp e) }
 
   module _ (e1 : layoutHolds l (4 * length ledger) ≡ true) where
     pub patched-2 : lengthHolds (4 * length ledger) ≡ false → Patched l ledger offset old new ledger old (Refused CodeLength)
-    unfolding patchVerdict verdictOf reasonVerdict ledgerAfter
+    unfolding patchVerdict ledgerAfter
     patched-2 e = record { verdict = sym (simp (e1, e)); ledger′ = sym (simp (e1, e)); bytes = sym (simp (e1, e)) }
 
     module _ (e2 : lengthHolds (4 * length ledger) ≡ true) where
       pub patched-12 : shapeHolds (length ledger) offset old new ≡ false → Patched l ledger offset old new ledger old (Refused PatchShape)
-      unfolding patchVerdict verdictOf reasonVerdict ledgerAfter
+      unfolding patchVerdict ledgerAfter
       patched-12 e = record { verdict = sym (simp (e1, e2, e)); ledger′ = sym (simp (e1, e2, e)); bytes = sym (simp (e1, e2, e)) }
 
       module _ (e12 : shapeHolds (length ledger) offset old new ≡ true) where

@@ -1,10 +1,13 @@
 // The first word that breaks a rule, among bundles that stand in a region. Roles come from the bundles
 // inside them and from the ledger outside; the check has the whole region and reads no ledger entry.
-use crate::region::bundle;
+use crate::region::before_at;
+use crate::region::next_at;
+use crate::region::reading_at;
 use crate::region::role_at;
+use decoder::place::Place;
 use decoder::place::direct_target;
-use decoder::reading::Kind;
 use decoder::reading::Reading;
+use pairs::role::PLAIN;
 use pairs::role::PLAIN;
 use rules::layout::Layout;
 use rules::rule::fault;
@@ -12,10 +15,8 @@ use rules::rule::landing;
 ghost use mathlib.Core.Path.{_≡_};
 ghost use Prim.Native.Nat.{_+_, _*_, _/_, _%_, _≤_, _<_};
 ghost use lib.ListN.{length};
-ghost use Rattle.decoder.specs.Place.{targetOf};
-ghost use Rattle.rules.specs.Layout.{addressOf};
-ghost use Rattle.rules.specs.Rule.{faultOf};
 ghost use Rattle.checker.specs.Lists.{First};
+ghost use Rattle.checker.specs.Region.{readingAt, beforeAt, nextAt};
 ghost use Rattle.checker.specs.Standing.{targetRole, roleFrom, standingFault, Stands};
 
 // number is 0 where no word breaks a rule; at is then the number of words.
@@ -39,6 +40,18 @@ pub(crate) fn role_from(ledger: &[u32], bytes: &[u8], first: usize, j: usize) ->
     ledger[j] % 4
 }
 
+// The role of the word that a target lands on. Where it lands on none, plain stands for it.
+fn target_role(layout: Layout, ledger: &[u32], bytes: &[u8], first: usize, target: Place) -> u32
+    requires { ⌜ length (now bytes) % 16 ≡ 0 ⌝ }
+    ensures { λ r. ⌜ r ≡ targetRole layout (length (now (ledger .entry))) (roleFrom (now (ledger .entry)) (now (bytes .entry)) first) target ⌝ }
+{
+    let j = landing(layout, ledger.len(), target);
+    if j < ledger.len() {
+        return role_from(ledger, bytes, first, j);
+    }
+    PLAIN
+}
+
 // The lowest number that word k breaks, or 0, from its reading and those beside it.
 fn word_fault(
     layout: Layout,
@@ -50,18 +63,14 @@ fn word_fault(
     word: Reading,
     next: Reading,
 ) -> u32
-    requires { ⌜ (Stands layout (length (now ledger)) (now bytes) first) × (k < length (now bytes) / 4) ⌝ }
-    ensures { λ r. ⌜ r ≡ faultOf layout (length (now (ledger .entry))) before word next (k % 4) (addressOf layout (first + k)) (targetRole layout (length (now (ledger .entry))) (roleFrom (now (ledger .entry)) (now (bytes .entry)) first) (targetOf (word .kind) (addressOf layout (first + k)))) ⌝ }
+    requires { ⌜ (Stands layout (length (now ledger)) (now bytes) first) × (k < length (now bytes) / 4) × (before ≡ beforeAt (now bytes) k) × (word ≡ readingAt (now bytes) k) × (next ≡ nextAt (now bytes) k) ⌝ }
+    ensures { λ r. ⌜ r ≡ standingFault layout (now (ledger .entry)) (now (bytes .entry)) first k ⌝ }
 {
     let words = ledger.len();
     let address = layout.code_start + (4 * (first + k)) as u32;
+    let role = target_role(layout, ledger, bytes, first, direct_target(word, address));
     let slot = (k % 4) as u32;
-    let j = landing(layout, words, direct_target(word, address));
-    if j < words {
-        let role = role_from(ledger, bytes, first, j);
-        return fault(layout, words, before, word, next, slot, address, role);
-    }
-    fault(layout, words, before, word, next, slot, address, PLAIN)
+    fault(layout, words, before, word, next, slot, address, role)
 }
 
 // The first of bundle b's words that breaks a rule.
@@ -69,46 +78,23 @@ fn bundle_fault(layout: Layout, ledger: &[u32], bytes: &[u8], first: usize, b: u
     requires { ⌜ (Stands layout (length (now ledger)) (now bytes) first) × (16 * b + 16 ≤ length (now bytes)) ⌝ }
     ensures { λ r. ⌜ First (standingFault layout (now (ledger .entry)) (now (bytes .entry)) first) (4 * b) 4 (r .at) (r .number) ⌝ }
 {
-    let readings = bundle(bytes, b);
-    let blank = Reading {
-        condition: 0,
-        kind: Kind::Unlisted,
-    };
-    let slot0 = readings[0];
-    let slot1 = readings[1];
-    let slot2 = readings[2];
-    let slot3 = readings[3];
-    let k = 4 * b;
-    let number0 = word_fault(layout, ledger, bytes, first, k, blank, slot0, slot1);
-    if number0 != 0 {
-        return Fault {
-            at: k,
-            number: number0,
-        };
-    }
-    let number1 = word_fault(layout, ledger, bytes, first, k + 1, slot0, slot1, slot2);
-    if number1 != 0 {
-        return Fault {
-            at: k + 1,
-            number: number1,
-        };
-    }
-    let number2 = word_fault(layout, ledger, bytes, first, k + 2, slot1, slot2, slot3);
-    if number2 != 0 {
-        return Fault {
-            at: k + 2,
-            number: number2,
-        };
-    }
-    let number3 = word_fault(layout, ledger, bytes, first, k + 3, slot2, slot3, blank);
-    if number3 != 0 {
-        return Fault {
-            at: k + 3,
-            number: number3,
-        };
+    let start = 4 * b;
+    let mut before = before_at(bytes, start);
+    let mut word = reading_at(bytes, start);
+    let mut slot = 0;
+    while slot < 4 {
+        let at = start + slot;
+        let next = next_at(bytes, at);
+        let number = word_fault(layout, ledger, bytes, first, at, before, word, next);
+        if number != 0 {
+            return Fault { at, number };
+        }
+        before = word;
+        word = next;
+        slot += 1;
     }
     Fault {
-        at: k + 4,
+        at: start + 4,
         number: 0,
     }
 }

@@ -7,7 +7,8 @@ use pairs::role::role_after;
 ghost use mathlib.Core.Path.{_≡_};
 ghost use Prim.Native.Nat.{_+_, _*_, _/_, _%_, _≤_, _<_};
 ghost use lib.ListN.{length};
-ghost use Rattle.checker.specs.Region.{wordAt, bundleAt, readingAt, beforeAt, roleAt};
+ghost use Rattle.pairs.specs.Role.{blank as «blank-reading»};
+ghost use Rattle.checker.specs.Region.{wordAt, bundleAt, readingAt, beforeAt, nextAt, roleAt};
 
 fn wide(byte: u8) -> u32
     ensures { λ r. ⌜ (r ≡ byte) × (r < 256) ⌝ }
@@ -50,18 +51,36 @@ pub(crate) fn reading_at(bytes: &[u8], k: usize) -> Reading
     reading(word(bytes, k - slot), word(bytes, k), slot)
 }
 
-// The reading of the word before word k in its bundle. Slot 0 has none, and a blank one stands for it.
-fn before_at(bytes: &[u8], k: usize) -> Reading
+// A blank reading stands where a bundle has no word.
+fn blank() -> Reading
+    ensures { λ r. ⌜ r ≡ «blank-reading» ⌝ }
+{
+    Reading {
+        condition: 0,
+        kind: Kind::Unlisted,
+    }
+}
+
+// The reading of the word before word k in its bundle, or a blank one in slot 0.
+pub(crate) fn before_at(bytes: &[u8], k: usize) -> Reading
     requires { ⌜ (length (now bytes) % 16 ≡ 0) × (4 * k < length (now bytes)) ⌝ }
     ensures { λ r. ⌜ r ≡ beforeAt (now (bytes .entry)) k ⌝ }
 {
     if k % 4 == 0 {
-        return Reading {
-            condition: 0,
-            kind: Kind::Unlisted,
-        };
+        return blank();
     }
     reading_at(bytes, k - 1)
+}
+
+// The reading of the word after word k in its bundle, or a blank one in slot 3.
+pub(crate) fn next_at(bytes: &[u8], k: usize) -> Reading
+    requires { ⌜ (length (now bytes) % 16 ≡ 0) × (4 * k < length (now bytes)) ⌝ }
+    ensures { λ r. ⌜ r ≡ nextAt (now (bytes .entry)) k ⌝ }
+{
+    if k % 4 == 3 {
+        return blank();
+    }
+    reading_at(bytes, k + 1)
 }
 
 // The role of word k.

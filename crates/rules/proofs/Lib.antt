@@ -2,5 +2,6 @@
 pub mod Tests
 pub mod Says
 pub mod Lowest
+pub mod Reasons
 pub mod Unique
 pub mod Points

@@ -4,11 +4,10 @@ use Prim.Native.Nat.{ℕ, zero, suc, _+_, _-_, _≤_, _<_}
 use native.Mathlib.Nat.{add-zero, add-suc, suc-add, not-suc-le-zero, le-of-suc-le-suc, le-antisymm}
 use native.Mathlib.Omega.{arith}
 use mathlib.Core.Path.{_≡_, _∙_, refl, sym, ap, subst}
-use mathlib.Core.Logic.{_↔_}
-use mathlib.Core.Bool.{Bool, true, false, cond, true≢false, false≢true}
+use mathlib.Core.Bool.{Bool, true, false, true≢false}
 use mathlib.Core.List.{List, [], _∷_}
-use lib.Dec.{ltb, lit≤}
-use lib.ListN.{length, getD}
+use lib.Dec.{ltb}
+use lib.ListN.{length, getD, List·getD-eq-default}
 use borrow.Author.Tests.{lt-ltb, le-ltb, ltb-true, ltb-false}
 use Rattle.decoder.specs.declared.reading.Reading.{Reading}
 use Rattle.decoder.proofs.Bools.{by-test}
@@ -27,12 +26,17 @@ pub record FirstIn (bs : List Bool) (place : ℕ) : Type 0 where
   pub below : (j : ℕ) → j < place → getD bs j false ≡ false
   pub within : place < length bs
 
-none-lowest : (i : ℕ) (bs : List Bool) → NoneIn bs → lowestFrom i bs ≡ 0
+-- past the end none does
+pub none-in : (bs : List Bool) → ((j : ℕ) → j < length bs → getD bs j false ≡ false) → NoneIn bs
+none-in bs h =
+    record { no′ = λ j. by-test (ltb j (length bs)) (λ t. h j (ltb-true _ _ t)) (λ t. List·getD-eq-default bs false (ltb-false _ _ t)) }
+
+pub none-lowest : (i : ℕ) (bs : List Bool) → NoneIn bs → lowestFrom i bs ≡ 0
 unfolding lowestFrom
 none-lowest i [] h = refl
 none-lowest i (b ∷ bs) h = simp (h .no′ 0) (none-lowest (suc i) bs (record { no′ = λ j. h .no′ (suc j) }))
 
-first-lowest : (i place : ℕ) (bs : List Bool) → FirstIn bs place → lowestFrom i bs ≡ i + place
+pub first-lowest : (i place : ℕ) (bs : List Bool) → FirstIn bs place → lowestFrom i bs ≡ i + place
 unfolding lowestFrom
 first-lowest i place [] h = absurd (not-suc-le-zero (h .within))
 first-lowest i zero (b ∷ bs) h = simp (h .yes′) (sym (add-zero i))

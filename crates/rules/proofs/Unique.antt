@@ -32,6 +32,8 @@ use Rattle.rules.proofs.rule.landing.Kinds as landing-kinds
 use Rattle.rules.proofs.rule.landing.Reads as landing
 use Rattle.rules.proofs.rule.landable.Kinds as landable-kinds
 use Rattle.rules.proofs.rule.landable.Reads as landable
+use Rattle.rules.proofs.rule.rules.Kinds as rules-kinds
+use Rattle.rules.proofs.rule.rules.Reads as rules
 use Rattle.rules.proofs.rule.fault.Kinds as fault-kinds
 use Rattle.rules.proofs.rule.fault.Reads as fault
 
@@ -79,6 +81,9 @@ landing-unique a u v x y p q = p ∙ sym q
 
 pub landable-unique : Unique landable-kinds.ps landable-kinds.r landable.Post
 landable-unique a u v x y p q = p ∙ sym q
+
+pub rules-unique : Unique rules-kinds.ps rules-kinds.r rules.Post
+rules-unique a u v x y p q = p ∙ sym q
 
 pub fault-unique : Unique fault-kinds.ps fault-kinds.r fault.Post
 fault-unique a u v x y p q = p ∙ sym q

@@ -15,7 +15,7 @@ pub data Verdict : Type 0 where
   refusedAt : ℕ → ℕ → Verdict
 
 -- 4 to 11 and 14 carry an address, the others none
-unfoldable pub reasonVerdict : Reason → Verdict
+abbrev pub reasonVerdict : Reason → Verdict
 reasonVerdict Layout = refused 1
 reasonVerdict CodeLength = refused 2
 reasonVerdict LedgerLength = refused 3
@@ -31,24 +31,23 @@ reasonVerdict PatchShape = refused 12
 reasonVerdict Disagreement = refused 13
 reasonVerdict (Stranded at) = refusedAt 14 at
 
-unfoldable pub verdictOf : Outcome → Verdict
-unfolding reasonVerdict
+abbrev pub verdictOf : Outcome → Verdict
 verdictOf Accepted = accepted
 verdictOf (Refused reason) = reasonVerdict reason
 
 -- the number of a refusal, and 0 where there is none
-unfoldable pub numberOf : Verdict → ℕ
+abbrev pub numberOf : Verdict → ℕ
 numberOf accepted = 0
 numberOf (refused number) = number
 numberOf (refusedAt number at) = number
 
-unfoldable pub carriesAddress : Verdict → Bool
+abbrev pub carriesAddress : Verdict → Bool
 carriesAddress accepted = false
 carriesAddress (refused number) = false
 carriesAddress (refusedAt number at) = true
 
 -- the address of a refusal, and 0 where there is none
-unfoldable pub placeOf : Verdict → ℕ
+abbrev pub placeOf : Verdict → ℕ
 placeOf accepted = 0
 placeOf (refused number) = 0
 placeOf (refusedAt number at) = at

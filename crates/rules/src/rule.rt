@@ -24,7 +24,7 @@ use pairs::role::HEAD;
 use pairs::role::PLAIN;
 ghost use mathlib.Core.Path.{_≡_};
 ghost use Rattle.decoder.specs.declared.reading.Reading.{Reading};
-ghost use Rattle.rules.specs.Rule.{rule4 as «r4», rule5 as «r5», rule6 as «r6», wantsGuard, rule7 as «r7», rule8 as «r8», rule9 as «r9», literalHolds, rule10 as «r10», wordAtAddress, landingOf, inTrampolines, landable as «can-land», rule11 as «r11», faultOf};
+ghost use Rattle.rules.specs.Rule.{rule4 as «r4», rule5 as «r5», rule6 as «r6», wantsGuard, rule7 as «r7», rule8 as «r8», rule9 as «r9», literalHolds, rule10 as «r10», wordAtAddress, landingOf, inTrampolines, landable as «can-land», rule11 as «r11», rulesOf, lowestFrom, faultOf};
 
 const THREAD: u32 = 9;
 
@@ -169,7 +169,47 @@ pub fn rule11(layout: Layout, words: usize, place: Place, role: u32) -> bool
     }
 }
 
-// The lowest number that the word breaks, or 0. role is that of the word that it lands on, if any.
+// Which of rules 4 to 11 the word breaks, in order. role is that of the word that it lands on, if any.
+pub fn rules(
+    layout: Layout,
+    words: usize,
+    before: Reading,
+    word: Reading,
+    next: Reading,
+    slot: u32,
+    address: u32,
+    role: u32,
+) -> [bool; 8]
+    ensures { λ r. ⌜ r ≡ rulesOf layout words before word next slot address role ⌝ }
+{
+    let kind = word.kind;
+    [
+        rule4(kind),
+        rule5(kind),
+        rule6(word, next),
+        rule7(layout, before, word),
+        rule8(before, word),
+        rule9(kind, slot),
+        rule10(layout, words, literal(word, address)),
+        rule11(layout, words, direct_target(word, address), role),
+    ]
+}
+
+// The number of the first that is broken, from 4 on, or 0.
+fn lowest(broken: [bool; 8]) -> u32
+    ensures { λ r. ⌜ r ≡ lowestFrom 4 broken ⌝ }
+{
+    let mut i = 0;
+    while i < 8 {
+        if broken[i] {
+            return 4 + i as u32;
+        }
+        i += 1;
+    }
+    0
+}
+
+// The lowest number that the word breaks, or 0.
 pub fn fault(
     layout: Layout,
     words: usize,
@@ -182,30 +222,5 @@ pub fn fault(
 ) -> u32
     ensures { λ r. ⌜ r ≡ faultOf layout words before word next slot address role ⌝ }
 {
-    let kind = word.kind;
-    if rule4(kind) {
-        return 4;
-    }
-    if rule5(kind) {
-        return 5;
-    }
-    if rule6(word, next) {
-        return 6;
-    }
-    if rule7(layout, before, word) {
-        return 7;
-    }
-    if rule8(before, word) {
-        return 8;
-    }
-    if rule9(kind, slot) {
-        return 9;
-    }
-    if rule10(layout, words, literal(word, address)) {
-        return 10;
-    }
-    if rule11(layout, words, direct_target(word, address), role) {
-        return 11;
-    }
-    0
+    lowest(rules(layout, words, before, word, next, slot, address, role))
 }

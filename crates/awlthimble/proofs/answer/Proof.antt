@@ -3,7 +3,7 @@ use borrow.Author.Needs.{needs}
 use mathlib.Core.Path.{_∙_, sym, ap, ap₂}
 use Prim.Native.Nat.{ℕ, _+_, _*_, _^_}
 use Rattle.rules.specs.declared.outcome.Outcome.{Outcome}
-use Rattle.rules.specs.Outcome.{verdictOf, numberOf, placeOf}
+use Rattle.rules.specs.Outcome.{verdictOf}
 use Rattle.awlthimble.specs.Answer.{packed}
 use Rattle.awlthimble.proofs.answer.Statement.{statement}
 use Rattle.awlthimble.proofs.answer.Tie as tie
@@ -33,11 +33,11 @@ add-result : tie.Need-add-result
 add-result c = search needs
 
 returns : tie.Need-returns
-unfolding packed verdictOf numberOf placeOf
+unfolding packed
 returns c = sym (ap (λ (o : Outcome). packed (verdictOf o)) (c .enum-told .given .1))
 
 returns-2 : tie.Need-returns-2
-unfolding packed verdictOf
+unfolding packed
 returns-2 c =
     ap₂ (λ (x y : ℕ). x + y * 2 ^ 32) (c .before .number .ensures) (c .address .ensures)
     ∙ sym (ap (λ (o : Outcome). packed (verdictOf o)) (c .before .before .before .outcome .given .1))

@@ -1,84 +1,47 @@
--- `fault::word_fault` meets its contract: the role that it hands on is that of the word that the target lands on.
-use borrow.Author.Needs.{needs}
-use mathlib.Core.Path.{_∙_, sym, ap}
+-- `fault::word_fault` meets its contract: it hands on the readings at the word, and the role of the word that its target lands on.
 use Prim.Native.Nat.{ℕ, _+_, _%_}
+use mathlib.Core.Path.{_≡_, _∙_}
+use mathlib.Core.List.{List}
 use lib.ListN.{length}
+use borrow.Author.Needs.{needs}
+use Rattle.decoder.specs.declared.reading.Reading.{Reading}
+use Rattle.decoder.specs.declared.place.Place.{Place}
 use Rattle.decoder.specs.Place.{targetOf}
+use Rattle.rules.specs.declared.layout.Layout.{Layout}
 use Rattle.rules.specs.Layout.{addressOf}
-use Rattle.rules.specs.Rule.{landingOf, faultOf}
-use Rattle.checker.specs.Standing.{roleFrom}
-use Rattle.checker.proofs.Slots.{role-inside, role-outside}
+use Rattle.rules.specs.Rule.{faultOf}
+use Rattle.checker.specs.Region.{readingAt, beforeAt, nextAt}
+use Rattle.checker.specs.Standing.{targetAt, targetRole, faultAt, roleFrom, standingFault}
 use Rattle.checker.proofs.fault.word_fault.Statement.{statement}
 use Rattle.checker.proofs.fault.word_fault.Tie as tie
 
-add-address : tie.Need-add-address
-add-address c = search needs
-
-mul-address : tie.Need-mul-address
-mul-address c = search needs
-
-cast-address : tie.Need-cast-address
-cast-address c = search needs
-
-add-address-2 : tie.Need-add-address-2
-add-address-2 c = search needs
-
-cast-slot : tie.Need-cast-slot
-cast-slot c = search needs
-
-direct-target-requires : tie.Need-direct-target-requires
-direct-target-requires c κs = search needs
-
-landing-requires : tie.Need-landing-requires
-landing-requires c κs = search needs
-
-role-from-requires : tie.Need-role-from-requires
-role-from-requires c κs = search needs
-
-fault-requires : tie.Need-fault-requires
-fault-requires c κs = search needs
+stands : (l : Layout) (ledger bytes : List ℕ) (first k : ℕ) {before word next : Reading} {target : Place} {role : ℕ}
+    → before ≡ beforeAt bytes k → word ≡ readingAt bytes k → next ≡ nextAt bytes k
+    → target ≡ targetOf (word .kind) (addressOf l (first + k))
+    → role ≡ targetRole l (length ledger) (roleFrom ledger bytes first) target
+    → faultOf l (length ledger) before word next (k % 4) (addressOf l (first + k)) role ≡ standingFault l ledger bytes first k
+unfolding standingFault faultAt targetAt
+stands l ledger bytes first k b w n t r = rw (r, t, b, w, n)
 
 returns : tie.Need-returns
 returns c =
-    let a = c .before .before .before .before .before .before .before .before .args in
-    let n = length (a .ledger .now) in
-    let at = addressOf (a .layout) (a .first + a .k) in
-    let j = c .before .before .before .landing in
+    let s = c .before .before .before .before .before .before in
+    let a = s .args in
+    let readings = s .pre in
     c .fault .ensures
-    ∙ ap (faultOf (a .layout) n (a .before) (a .word) (a .next) (a .k % 4) at)
-    (c .before .role-from .ensures
-    ∙ role-inside (a .layout) n (roleFrom (a .ledger .now) (a .bytes .now) (a .first)) (targetOf (a .word .kind) at) (j .result)
-    (j .ensures ∙ ap (landingOf (a .layout) n) (c .before .before .before .before .direct-target .ensures))
-    (c .before .before .if1 .taken))
-
-fault-requires-2 : tie.Need-fault-requires-2
-fault-requires-2 c κs = search needs
-
-returns-2 : tie.Need-returns-2
-returns-2 c =
-    let a = c .before .before .before .before .before .before .before .args in
-    let n = length (a .ledger .now) in
-    let at = addressOf (a .layout) (a .first + a .k) in
-    let j = c .before .before .landing in
-    c .fault2 .ensures
-    ∙ ap (faultOf (a .layout) n (a .before) (a .word) (a .next) (a .k % 4) at)
-    (role-outside (a .layout) n (roleFrom (a .ledger .now) (a .bytes .now) (a .first)) (targetOf (a .word .kind) at) (j .result)
-    (j .ensures ∙ ap (landingOf (a .layout) n) (c .before .before .before .direct-target .ensures))
-    (c .before .if1 .left))
+    ∙ stands (a .layout) (a .ledger .now) (a .bytes .now) (a .first) (a .k) (readings .2) (readings .3) (readings .4)
+    (c .before .before .direct-target .ensures) (c .before .target-role .ensures)
 
 pub word-fault-spec : {M : Type 1} → statement M
 word-fault-spec =
     tie.close
     (tie.spec
-    add-address
-    mul-address
-    cast-address
-    add-address-2
-    cast-slot
-    direct-target-requires
-    landing-requires
-    role-from-requires
-    fault-requires
-    returns
-    fault-requires-2
-    returns-2)
+    (λ c. search needs)
+    (λ c. search needs)
+    (λ c. search needs)
+    (λ c. search needs)
+    (λ c κs. search needs)
+    (λ c κs. search needs)
+    (λ c. search needs)
+    (λ c κs. search needs)
+    returns)

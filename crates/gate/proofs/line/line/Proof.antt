@@ -39,7 +39,6 @@ same-length : tie.Need-same-length
 same-length c = search needs
 
 returns : tie.Need-returns
-unfolding verdictOf
 returns c =
     let checks = c .before .before .before .before .before .before .check in
     let a = c .before .before .before .before .before .before .before .before .before .before .before .args in
@@ -56,7 +55,6 @@ same-length-2 : tie.Need-same-length-2
 same-length-2 c = search needs
 
 returns-2 : tie.Need-returns-2
-unfolding verdictOf
 returns-2 c =
     let checks = c .before .before .before .before .before .before .before .check in
     let a = c .before .before .before .before .before .before .before .before .before .before .before .before .args in

@@ -4,9 +4,10 @@ use native.Mathlib.Omega.{arith}
 use mathlib.Core.Path.{_≡_, _∙_, sym, ap, ap₂, subst}
 use mathlib.Core.List.{List, _++_}
 use Rattle.rules.specs.Outcome.{reasonVerdict}
+use Rattle.rules.proofs.Reasons.{reason-refuses}
 use Rattle.gate.specs.Text.{ascii, numeral, Puts}
 use Rattle.gate.proofs.Texts.{puts-then}
-use Rattle.gate.proofs.Lines.{reason-refuses, line-alone, line-at}
+use Rattle.gate.proofs.Lines.{line-alone, line-at}
 use borrow.Author.Needs.{needs}
 use borrow.Author.Tests.{not-true, not-false}
 use Rattle.gate.proofs.line.put_refused.Statement.{statement}
