@@ -1,18 +1,19 @@
 -- A region edited: inside the patch its words are the new ones, outside they are the old ones.
-use Prim.Native.Nat.{ℕ, zero, suc, _+_, _-_, _*_, _/_, _%_, _≤_, _<_}
+use Prim.Native.Nat.{ℕ, _+_, _-_, _*_, _/_, _%_, _≤_, _<_}
 use native.Mathlib.Omega.{arith}
-use mathlib.Core.Path.{_≡_, _∙_, refl, sym, ap, ap₂, subst}
-use mathlib.Core.Bool.{Bool, true, false, _&&_, cond}
+use mathlib.Core.Path.{_≡_, _∙_, refl, ap, ap₂, subst}
+use mathlib.Core.Bool.{cond}
 use mathlib.Core.List.{List, [], _∷_}
-use lib.Dec.{eqb, ltb, leb}
+use lib.Dec.{eqb}
 use lib.ListN.{length, getD}
 use borrow.Author.Tests.{le-leb, lt-leb, lt-ltb, le-ltb}
 use Rattle.decoder.specs.declared.reading.Reading.{Reading}
 use Rattle.decoder.specs.Bundle.{readingsOf, blank}
 use Rattle.pairs.specs.Role.{rolesOf}
 use Rattle.checker.specs.Region.{wordAt, bundleWords, bundleAt, readingAt, beforeAt, nextAt, roleAt}
-use Rattle.checker.specs.Edit.{piece, edited}
+use Rattle.checker.specs.Edit.{edited}
 use Rattle.checker.proofs.Lists.{list-length, list-at}
+use Rattle.checker.proofs.Placed.{Placed}
 
 -- ---- words of the same bytes
 
@@ -86,22 +87,22 @@ module _ (code : List ℕ) (offset : ℕ) (new : List ℕ) where
   unfolding edited
   edited-above i h high = list-at _ (length code) i h ∙ simp (le-leb offset i (omega arith), le-ltb i (offset + length new) high)
 
-  module _ (whole : length new % 16 ≡ 0) (at : offset % 16 ≡ 0) (all-whole : length code % 16 ≡ 0) (fits : offset + length new ≤ length code) where
-    pub word-in : (k : ℕ) → k < length new / 4 → SameWord (edited code offset new) (offset / 4 + k) new k
-    word-in k h =
-        record {
-          bundle′ =
-              bundle-same _ _ _ _
-              (λ i t.
-              let x : offset + (16 * (k / 4) + i) ≡ 16 * ((offset / 4 + k) / 4) + i = omega arith in
-              subst (λ (u : ℕ). getD (edited code offset new) u 0 ≡ getD new (16 * (k / 4) + i) 0) x (edited-in (16 * (k / 4) + i) (omega arith) fits));
-          slot′ = omega arith;
-        }
+module _ {code : List ℕ} {offset : ℕ} {new : List ℕ} (p : Placed code offset new) where
+  pub word-in : (k : ℕ) → k < length new / 4 → SameWord (edited code offset new) (offset / 4 + k) new k
+  word-in k h =
+      record {
+        bundle′ =
+            bundle-same _ _ _ _
+            (λ i t.
+            let x : offset + (16 * (k / 4) + i) ≡ 16 * ((offset / 4 + k) / 4) + i = omega arith in
+            subst (λ (u : ℕ). getD (edited code offset new) u 0 ≡ getD new (16 * (k / 4) + i) 0) x (edited-in code offset new (16 * (k / 4) + i) (omega arith) (p .fits)));
+        slot′ = omega arith;
+      }
 
-    pub word-out : (j : ℕ) → j < length code / 4 → offset / 4 + length new / 4 ≤ j → SameWord (edited code offset new) j code j
-    word-out j h high =
-        record { bundle′ = bundle-same _ _ _ _ (λ i t. edited-above (16 * (j / 4) + i) (omega arith) (omega arith)); slot′ = refl }
+  pub word-out : (j : ℕ) → j < length code / 4 → offset / 4 + length new / 4 ≤ j → SameWord (edited code offset new) j code j
+  word-out j h high =
+      record { bundle′ = bundle-same _ _ _ _ (λ i t. edited-above code offset new (16 * (j / 4) + i) (omega arith) (omega arith)); slot′ = refl }
 
-    pub word-low : (j : ℕ) → j < offset / 4 → SameWord (edited code offset new) j code j
-    word-low j h =
-        record { bundle′ = bundle-same _ _ _ _ (λ i t. edited-below (16 * (j / 4) + i) (omega arith) (omega arith)); slot′ = refl }
+  pub word-low : (j : ℕ) → j < offset / 4 → SameWord (edited code offset new) j code j
+  word-low j h =
+      record { bundle′ = bundle-same _ _ _ _ (λ i t. edited-below code offset new (16 * (j / 4) + i) (omega arith) (omega arith)); slot′ = refl }

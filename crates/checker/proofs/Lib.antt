@@ -8,6 +8,7 @@ pub mod Moving
 pub mod Exchange
 pub mod Undo
 pub mod Patches
+pub mod Placed
 pub mod Edited
 pub mod Recount
 pub mod Landing

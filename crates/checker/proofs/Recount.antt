@@ -1,9 +1,9 @@
 -- The landings of an edited region: those of the old bundles off and those of the new ones on; and the words outside that land on a word.
-use Prim.Native.Nat.{ℕ, zero, suc, _+_, _-_, _*_, _/_, _%_, _≤_, _<_}
+use Prim.Native.Nat.{ℕ, zero, suc, _+_, _-_, _*_, _/_, _≤_, _<_}
 use native.Mathlib.Nat.{zero-add, le-refl}
 use native.Mathlib.Omega.{arith}
 use mathlib.Core.Path.{_≡_, _∙_, refl, sym, ap, ap₂, subst}
-use mathlib.Core.Bool.{Bool, true, false, cond}
+use mathlib.Core.Bool.{cond}
 use mathlib.Core.List.{List}
 use lib.Dec.{eqb}
 use lib.ListN.{length, getD}
@@ -15,12 +15,11 @@ use Rattle.rules.specs.declared.layout.Layout.{Layout}
 use Rattle.rules.specs.Layout.{addressOf}
 use Rattle.rules.specs.Rule.{landingOf}
 use Rattle.checker.specs.Lists.{sum}
-use Rattle.checker.specs.Region.{readingAt}
 use Rattle.checker.specs.Standing.{targetAt, landingAt, landings}
-use Rattle.checker.specs.Check.{wordsOf}
-use Rattle.checker.specs.Edit.{piece, edited}
+use Rattle.checker.specs.Edit.{piece}
 use Rattle.checker.proofs.Lists.{split, sum-same, sum-cut, list-length, list-at}
-use Rattle.checker.proofs.Edited.{SameWord, reading-same, word-in, word-out, word-low, edited-length, bundle-same}
+use Rattle.checker.proofs.Placed.{Placed, Parts, parts}
+use Rattle.checker.proofs.Edited.{SameWord, reading-same, word-in, word-out, word-low, bundle-same}
 
 pub target-same : (l : Layout) (n : ℕ) (xs : List ℕ) (a j : ℕ) (ys : List ℕ) (b k : ℕ) → SameWord xs j ys k → a + j ≡ b + k → targetAt l n xs a j ≡ targetAt l n ys b k
 unfolding targetAt
@@ -55,22 +54,8 @@ unfolding sum
 term-most f zero k h = absurd (omega arith)
 term-most f (suc n) k h = split (suc k) n (λ s. let r = term-most f n k s in omega arith) (λ s. let e : k ≡ n = omega arith in subst (λ (x : ℕ). f x ≤ sum f n + f n) (sym e) (omega arith))
 
-module _ (l : Layout) (code : List ℕ) (offset : ℕ) (new : List ℕ)
-    (whole : length new % 16 ≡ 0) (at : offset % 16 ≡ 0) (all-whole : length code % 16 ≡ 0) (fits : offset + length new ≤ length code) where
-  abbrev pub n : ℕ
-  n = wordsOf code
-
-  abbrev pub first : ℕ
-  first = offset / 4
-
-  abbrev pub m : ℕ
-  m = wordsOf new
-
-  abbrev pub old : List ℕ
-  old = piece code offset (length new)
-
-  abbrev pub after : List ℕ
-  after = edited code offset new
+module _ (l : Layout) {code : List ℕ} {offset : ℕ} {new : List ℕ} (p : Placed code offset new) where
+  open Parts (parts l code offset new) using (n, first, m, old, after)
 
   pub old-length : length old ≡ length new
   unfolding piece
@@ -119,9 +104,9 @@ module _ (l : Layout) (code : List ℕ) (offset : ℕ) (new : List ℕ)
   counted-after j =
       cut after j
       ∙ ap₂ (λ (x y : ℕ). x + sum (λ k. lands after 0 j (first + k)) m + y)
-      (sum-same _ _ first (λ k h. lands-same after 0 k code 0 k j (word-low code offset new whole at all-whole fits k h) refl))
-      (sum-same _ _ (n - (first + m)) (λ k h. lands-same after 0 (first + m + k) code 0 (first + m + k) j (word-out code offset new whole at all-whole fits (first + m + k) (omega arith) (omega arith)) refl))
-      ∙ ap (λ (x : ℕ). low j + x + high j) (sum-same _ _ m (λ k h. lands-same after 0 (first + k) new first k j (word-in code offset new whole at all-whole fits k h) (zero-add (first + k))))
+      (sum-same _ _ first (λ k h. lands-same after 0 k code 0 k j (word-low p k h) refl))
+      (sum-same _ _ (n - (first + m)) (λ k h. lands-same after 0 (first + m + k) code 0 (first + m + k) j (word-out p (first + m + k) (omega arith) (omega arith)) refl))
+      ∙ ap (λ (x : ℕ). low j + x + high j) (sum-same _ _ m (λ k h. lands-same after 0 (first + k) new first k j (word-in p k h) (zero-add (first + k))))
 
   -- word i of the region stands outside the patch
   pub record Outside (i : ℕ) : Type 0 where
@@ -133,7 +118,7 @@ module _ (l : Layout) (code : List ℕ) (offset : ℕ) (new : List ℕ)
   below-outside i h =
       record {
         inside′ = omega arith;
-        same-word = word-low code offset new whole at all-whole fits i h;
+        same-word = word-low p i h;
         counts = λ j. let r = term-most (lands code 0 j) first i h in omega arith;
       }
 
@@ -141,7 +126,7 @@ module _ (l : Layout) (code : List ℕ) (offset : ℕ) (new : List ℕ)
   above-outside i h k =
       record {
         inside′ = k;
-        same-word = word-out code offset new whole at all-whole fits i k h;
+        same-word = word-out p i k h;
         counts = λ j.
             let e : first + m + (i - (first + m)) ≡ i = omega arith in
             let r = term-most (λ x. lands code 0 j (first + m + x)) (n - (first + m)) (i - (first + m)) (omega arith) in

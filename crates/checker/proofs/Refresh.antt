@@ -6,24 +6,24 @@ use native.Mathlib.Omega.{arith}
 use mathlib.Core.Path.{_≡_, _∙_, refl, sym, ap, ap₂, subst}
 use mathlib.Core.Bool.{Bool, true, false, not, _&&_, cond, true≢false}
 use mathlib.Core.List.{List}
-use lib.Dec.{eqb, ltb, leb}
+use lib.Dec.{eqb}
 use lib.ListN.{length, getD}
-use borrow.Author.Tests.{eqb-true, eqb-false, ne-eqb, le-leb, lt-leb, lt-ltb, le-ltb, ltb-true, ltb-false}
-use Rattle.pairs.specs.Role.{plain}
+use borrow.Author.Tests.{eqb-false, ne-eqb, le-leb, lt-leb, lt-ltb, le-ltb}
+use Rattle.decoder.specs.Bundle.{plain}
 use Rattle.decoder.proofs.Bools.{by-test}
 use Rattle.rules.specs.declared.layout.Layout.{Layout}
 use Rattle.rules.specs.Layout.{layoutHolds, addressOf}
-use Rattle.rules.specs.Rule.{landingOf, landable, faultOf}
+use Rattle.rules.specs.Rule.{landable, faultOf}
 use Rattle.checker.specs.Region.{readingAt, beforeAt, nextAt, roleAt}
 use Rattle.checker.specs.Standing.{targetAt, landingAt, landings, targetRole, faultAt, roleFrom, standingFault}
-use Rattle.checker.specs.Check.{wordsOf, codeFault, ledgerOf}
+use Rattle.checker.specs.Check.{wordsOf, codeFault}
 use Rattle.checker.specs.Patch.{countLess, strandedAt}
-use Rattle.checker.specs.Edit.{piece, edited}
 use Rattle.checker.proofs.Lists.{split}
 use Rattle.checker.proofs.Ledgers.{role-below}
 use Rattle.checker.proofs.Moving.{hit}
 use Rattle.checker.proofs.Checks.{fault-same}
 use Rattle.checker.proofs.Demands.{ledger-entries}
+use Rattle.checker.proofs.Placed.{Placed, Parts, parts}
 use Rattle.checker.proofs.Edited.{SameWord, reading-same, before-same, next-same, role-same, word-in, word-out, word-low, edited-length}
 use Rattle.checker.proofs.Recount.{target-same, low, high, old-length, counted-before, Outside, some-outside}
 use Rattle.checker.proofs.Landing.{landable-keeps, lands-right}
@@ -49,28 +49,11 @@ word-fault-same l n f xs a j ys b k s e =
     let u = target-same l n xs a j ys b k s e in
     cc
 
-module _ (l : Layout) (code : List ℕ) (offset : ℕ) (new : List ℕ)
-    (whole : length new % 16 ≡ 0) (at : offset % 16 ≡ 0) (all-whole : length code % 16 ≡ 0) (fits : offset + length new ≤ length code) where
-  abbrev n : ℕ
-  n = wordsOf code
-
-  abbrev first : ℕ
-  first = offset / 4
-
-  abbrev m : ℕ
-  m = wordsOf new
-
-  abbrev old : List ℕ
-  old = piece code offset (length new)
-
-  abbrev after : List ℕ
-  after = edited code offset new
-
-  abbrev ledger : List ℕ
-  ledger = ledgerOf l code
+module _ (l : Layout) {code : List ℕ} {offset : ℕ} {new : List ℕ} (p : Placed code offset new) where
+  open Parts (parts l code offset new) using (n, first, m, old, after, ledger, less, fault, strand)
 
   abbrev rest : ℕ → ℕ
-  rest j = low l code offset new whole at all-whole fits j + high l code offset new whole at all-whole fits j
+  rest j = low l p j + high l p j
 
   -- ---- the ledger's entries
 
@@ -83,25 +66,25 @@ module _ (l : Layout) (code : List ℕ) (offset : ℕ) (new : List ℕ)
   pub role-is : (j : ℕ) → j < n → getD ledger j 0 % 4 ≡ roleAt code j
   role-is j h = rest-of _ (landings l n code 0 n j) _ (ledger-entries l code .1 j h) (role-below code j)
 
-  pub less-is : (j : ℕ) → j < n → countLess l ledger old first j ≡ rest j
+  pub less-is : (j : ℕ) → j < n → less j ≡ rest j
   unfolding countLess
   less-is j h =
       let count = count-is j h in
-      let parts = counted-before l code offset new whole at all-whole fits j in
+      let parts = counted-before l p j in
       let same : landings l (length ledger) old first (wordsOf old) j ≡ landings l n old first m j =
-      ap₂ (λ (x y : ℕ). landings l x old first y j) (ledger-entries l code .0) (ap (λ (x : ℕ). x / 4) (old-length l code offset new whole at all-whole fits)) in
+      ap₂ (λ (x y : ℕ). landings l x old first y j) (ledger-entries l code .0) (ap (λ (x : ℕ). x / 4) (old-length l p)) in
       omega arith
 
   -- ---- roles
 
   role-in : (k : ℕ) → k < m → roleAt after (first + k) ≡ roleAt new k
-  role-in k h = role-same after (first + k) new k (word-in code offset new whole at all-whole fits k h)
+  role-in k h = role-same after (first + k) new k (word-in p k h)
 
   role-low : (j : ℕ) → j < first → roleAt after j ≡ roleAt code j
-  role-low j h = role-same after j code j (word-low code offset new whole at all-whole fits j h)
+  role-low j h = role-same after j code j (word-low p j h)
 
   role-high : (j : ℕ) → j < n → first + m ≤ j → roleAt after j ≡ roleAt code j
-  role-high j h k = role-same after j code j (word-out code offset new whole at all-whole fits j h k)
+  role-high j h k = role-same after j code j (word-out p j h k)
 
   pub roles-are : (j : ℕ) → j < n → roleFrom ledger new first j ≡ roleAt after j
   unfolding roleFrom
@@ -116,15 +99,15 @@ module _ (l : Layout) (code : List ℕ) (offset : ℕ) (new : List ℕ)
 
   -- ---- faults
 
-  pub inside-fault : (k : ℕ) → k < m → standingFault l ledger new first k ≡ codeFault l after (first + k)
+  pub inside-fault : (k : ℕ) → k < m → fault k ≡ codeFault l after (first + k)
   unfolding standingFault codeFault
   inside-fault k h =
       ap (λ (x : ℕ). faultAt l x (roleFrom ledger new first) new first k) (ledger-entries l code .0)
       ∙ fault-same l n (roleFrom ledger new first) (roleAt after) new first k roles-are
-      ∙ sym (word-fault-same l n (roleAt after) after 0 (first + k) new first k (word-in code offset new whole at all-whole fits k h) (zero-add (first + k)))
+      ∙ sym (word-fault-same l n (roleAt after) after 0 (first + k) new first k (word-in p k h) (zero-add (first + k)))
       ∙ ap (λ (x : ℕ). faultAt l x (roleAt after) after 0 (first + k)) (sym words-after)
 
-  module _ (i : ℕ) (o : Outside l code offset new whole at all-whole fits i) where
+  module _ (i : ℕ) (o : Outside l p i) where
     abbrev t : ℕ
     t = landingAt l n code 0 i
 
@@ -153,7 +136,7 @@ module _ (l : Layout) (code : List ℕ) (offset : ℕ) (new : List ℕ)
     stays : codeFault l code i ≡ 0 → roleAt after t ≡ roleAt code t → t < n → codeFault l after i ≡ 0
     stays z e h = fault-after ∙ ap faultWith (lands-in (roleAt after) h ∙ e ∙ sym (lands-in (roleAt code) h)) ∙ sym fault-before ∙ z
 
-    pub outside-meets : codeFault l code i ≡ 0 → ((k : ℕ) → k < m → strandedAt (countLess l ledger old first) new first k ≡ 0) → codeFault l after i ≡ 0
+    pub outside-meets : codeFault l code i ≡ 0 → ((k : ℕ) → k < m → strand k ≡ 0) → codeFault l after i ≡ 0
     unfolding strandedAt
     outside-meets z none =
         split n t (λ h. fault-after ∙ ap faultWith (lands-out (roleAt after) h ∙ sym (lands-out (roleAt code) h)) ∙ sym fault-before ∙ z)
@@ -172,22 +155,22 @@ module _ (l : Layout) (code : List ℕ) (offset : ℕ) (new : List ℕ)
         free k h e =
             let some : 1 ≤ rest (first + k) = subst (λ (x : ℕ). 1 ≤ rest x) (sym e) (let one = hit t in let c = o .counts t in omega arith) in
             let count = less-is (first + k) (omega arith) in
-            unstranded (landable (roleAt new k)) (eqb (countLess l ledger old first (first + k)) 0) (none k h) (ne-eqb (countLess l ledger old first (first + k)) 0 (λ q. omega arith))
+            unstranded (landable (roleAt new k)) (eqb (less (first + k)) 0) (none k h) (ne-eqb (less (first + k)) 0 (λ q. omega arith))
 
     pub outside-lands : (length : ℕ) → layoutHolds l length ≡ true → t < n → codeFault l after i ≡ 0 → landable (roleAt after t) ≡ true
     unfolding landingAt targetAt
     outside-lands length e h z = ap landable (sym (lands-in (roleAt after) h)) ∙ lands-right l n _ _ _ _ _ length _ e h (sym fault-after ∙ z)
 
   -- where a fresh check would find no fault, none is stranded
-  pub none-stranded : (length′ : ℕ) → layoutHolds l length′ ≡ true → ((j : ℕ) → j < n → codeFault l after j ≡ 0) → (k : ℕ) → k < m → strandedAt (countLess l ledger old first) new first k ≡ 0
+  pub none-stranded : (length′ : ℕ) → layoutHolds l length′ ≡ true → ((j : ℕ) → j < n → codeFault l after j ≡ 0) → (k : ℕ) → k < m → strand k ≡ 0
   unfolding strandedAt
   none-stranded length′ e meets k h =
-      by-test (eqb (countLess l ledger old first (first + k)) 0)
+      by-test (eqb (less (first + k)) 0)
       (λ z. by-test (landable (roleAt new k)) (λ y. simp (z, y)) (λ y. simp (z, y)))
       (λ z.
-      let some = eqb-false (countLess l ledger old first (first + k)) 0 z in
+      let some = eqb-false (less (first + k)) 0 z in
       let count = less-is (first + k) (omega arith) in
-      let r = some-outside l code offset new whole at all-whole fits (first + k) (λ q. some (omega arith)) in
+      let r = some-outside l p (first + k) (λ q. some (omega arith)) in
       let i = r .0 in
       let o = r .1 in
       let lands′ : landingAt l n code 0 i ≡ first + k = r .2 in
