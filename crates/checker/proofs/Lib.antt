@@ -2,7 +2,6 @@
 pub mod Words
 pub mod Lists
 pub mod First
-pub mod Lists
 pub mod Ledgers
 pub mod Moving
 pub mod Exchange

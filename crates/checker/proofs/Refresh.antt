@@ -9,7 +9,7 @@ use mathlib.Core.List.{List}
 use lib.Dec.{eqb}
 use lib.ListN.{length, getD}
 use borrow.Author.Tests.{eqb-false, ne-eqb, le-leb, lt-leb, lt-ltb, le-ltb}
-use Rattle.decoder.specs.Bundle.{plain}
+use Rattle.pairs.specs.Role.{plain}
 use Rattle.decoder.proofs.Bools.{by-test}
 use Rattle.rules.specs.declared.layout.Layout.{Layout}
 use Rattle.rules.specs.Layout.{layoutHolds, addressOf}

@@ -8,7 +8,6 @@ use decoder::place::Place;
 use decoder::place::direct_target;
 use decoder::reading::Reading;
 use pairs::role::PLAIN;
-use pairs::role::PLAIN;
 use rules::layout::Layout;
 use rules::rule::fault;
 use rules::rule::landing;

@@ -7,7 +7,7 @@ use pairs::role::role_after;
 ghost use mathlib.Core.Path.{_≡_};
 ghost use Prim.Native.Nat.{_+_, _*_, _/_, _%_, _≤_, _<_};
 ghost use lib.ListN.{length};
-ghost use Rattle.pairs.specs.Role.{blank as «blank-reading»};
+ghost use Rattle.decoder.specs.Bundle.{blank as «blank-reading»};
 ghost use Rattle.checker.specs.Region.{wordAt, bundleAt, readingAt, beforeAt, nextAt, roleAt};
 
 fn wide(byte: u8) -> u32
