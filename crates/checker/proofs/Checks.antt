@@ -19,10 +19,12 @@ use Rattle.rules.specs.Outcome.{Verdict, accepted, refused, refusedAt, reasonVe
 use Rattle.rules.specs.Rule.{landingOf, faultOf}
 use Rattle.rules.proofs.Says.{layout-ends, length-says}
 use Rattle.rules.proofs.Lowest.{lowest}
-use Rattle.checker.specs.Lists.{firstFrom, First}
+use Rattle.checker.specs.Lists.{firstFrom}
+use Rattle.checker.specs.parts.First.{First}
 use Rattle.checker.specs.Region.{roleAt, beforeAt, readingAt, nextAt}
-use Rattle.checker.specs.Standing.{targetAt, landingAt, landings, targetRole, faultAt, roleFrom, standingFault, Stands}
-use Rattle.checker.specs.Ledger.{Cleared, RolesWritten, Within, fits, canMove, MovedFirst}
+use Rattle.checker.specs.Standing.{targetAt, landingAt, landings, targetRole, faultAt, roleFrom, standingFault}
+use Rattle.checker.specs.parts.Stands.{Stands}
+use Rattle.checker.specs.parts.Ledger.{Cleared, RolesWritten, Within, fits, canMove, MovedFirst}
 use Rattle.checker.specs.Check.{wordsOf, codeFault, wordsVerdict, checkVerdict, entryOf, ledgerOf, ledgerAfter, Checked}
 use Rattle.checker.proofs.First.{first-same, first-value, first-end}
 use Rattle.checker.proofs.Lists.{sum-most, all-yes, list-is}

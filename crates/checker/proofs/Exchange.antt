@@ -10,9 +10,9 @@ use borrow.Author.Tests.{leb-true}
 use Rattle.rules.specs.declared.layout.Layout.{Layout}
 use Rattle.checker.specs.Lists.{all, firstFrom}
 use Rattle.checker.specs.Standing.{landings}
-use Rattle.checker.specs.Ledger.{Within, fits, canMove, Moved}
+use Rattle.checker.specs.parts.Ledger.{Within, fits, canMove, Moved}
 use Rattle.checker.specs.Patch.{countsHold, oldCounted, countLess, newFit, strandedAt}
-use Rattle.checker.specs.PatchParts.{countAt, Exchanges}
+use Rattle.checker.specs.parts.Patch.{countAt, Exchanges}
 use Rattle.checker.proofs.First.{first-same}
 use Rattle.checker.proofs.Lists.{all-same, all-at}
 use Rattle.checker.proofs.Moving.{within-then, moved-back}

@@ -8,7 +8,8 @@ use lib.Dec.{eqb}
 use borrow.Author.Tests.{eqb-true, eqb-false, eq-eqb, ne-eqb, lt-ltb, le-ltb}
 use native.Mathlib.Decide.{ℕ-discrete}
 use Rattle.decoder.proofs.Bools.{by-test}
-use Rattle.checker.specs.Lists.{firstFrom, First}
+use Rattle.checker.specs.Lists.{firstFrom}
+use Rattle.checker.specs.parts.First.{First}
 use Rattle.checker.proofs.Lists.{split}
 
 module _ (f : ℕ → ℕ) where

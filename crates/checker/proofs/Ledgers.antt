@@ -8,7 +8,7 @@ use lib.Seq.{getD-set-same, getD-set-other}
 use Rattle.pairs.specs.Role.{rolesOf}
 use Rattle.pairs.proofs.Roles.{role-small}
 use Rattle.checker.specs.Region.{bundleAt, roleAt}
-use Rattle.checker.specs.Ledger.{RolesWritten}
+use Rattle.checker.specs.parts.Ledger.{RolesWritten}
 use Rattle.checker.proofs.Lists.{split}
 
 -- the role of word 4 b + slot is the bundle's

@@ -14,7 +14,7 @@ use Rattle.decoder.proofs.Bools.{by-test}
 use Rattle.rules.specs.declared.layout.Layout.{Layout}
 use Rattle.checker.specs.Lists.{sum, all}
 use Rattle.checker.specs.Standing.{landingAt, landings}
-use Rattle.checker.specs.Ledger.{Within, moves, fits, canMove, oneOn, Moved, MovedFirst}
+use Rattle.checker.specs.parts.Ledger.{Within, moves, fits, canMove, oneOn, Moved, MovedFirst}
 use Rattle.checker.proofs.Lists.{split, sum-more, all-same, all-yes, all-at, all-no}
 
 -- ---- one entry: x before, y after

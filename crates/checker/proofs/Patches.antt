@@ -18,13 +18,16 @@ use Rattle.rules.specs.Layout.{layoutHolds, lengthHolds, addressOf}
 use Rattle.rules.specs.Outcome.{Verdict, accepted, refused, refusedAt, reasonVerdict}
 use Rattle.rules.proofs.Says.{layout-ends}
 use Rattle.rules.proofs.Lowest.{lowest}
-use Rattle.checker.specs.Lists.{firstFrom, First}
+use Rattle.checker.specs.Lists.{firstFrom}
+use Rattle.checker.specs.parts.First.{First}
 use Rattle.checker.specs.Region.{roleAt}
-use Rattle.checker.specs.Standing.{landings, faultAt, roleFrom, standingFault, Stands}
-use Rattle.checker.specs.Ledger.{RolesWritten, Within}
+use Rattle.checker.specs.Standing.{landings, faultAt, roleFrom, standingFault}
+use Rattle.checker.specs.parts.Stands.{Stands}
+use Rattle.checker.specs.parts.Ledger.{RolesWritten, Within}
 use Rattle.checker.specs.Check.{wordsOf, ledgerAfter}
 use Rattle.checker.specs.Patch.{shapeHolds, countsHold, rolesAgree, oldCounted, countLess, newFit, strandedAt, agrees, strandedVerdict, newWordsVerdict, movedEntry, movedLedger, bundlesVerdict, patchVerdict, Patched}
-use Rattle.checker.specs.PatchParts.{Exchanges, BothStand, PatchedWords}
+use Rattle.checker.specs.parts.Patch.{Exchanges, PatchedWords}
+use Rattle.checker.specs.parts.Stands.{BothStand}
 use Rattle.checker.proofs.First.{first-value, first-end}
 use Rattle.checker.proofs.Lists.{split, list-is}
 use Rattle.checker.proofs.Undo.{count-after, off-counted}

@@ -10,9 +10,9 @@ use borrow.Author.Tests.{le-leb, leb-true}
 use Rattle.decoder.proofs.Bools.{both}
 use Rattle.rules.specs.declared.layout.Layout.{Layout}
 use Rattle.checker.specs.Standing.{landings}
-use Rattle.checker.specs.Ledger.{Within, Swapped}
+use Rattle.checker.specs.parts.Ledger.{Within, Swapped}
 use Rattle.checker.specs.Patch.{oldCounted, countLess, newFit}
-use Rattle.checker.specs.PatchParts.{Exchanges}
+use Rattle.checker.specs.parts.Patch.{Exchanges}
 use Rattle.checker.proofs.Lists.{all-yes, all-at}
 
 moved-count : (a x o p : ℕ) → a + 4 * o ≡ x + 4 * p → o ≤ x / 4 → a / 4 ≡ x / 4 - o + p

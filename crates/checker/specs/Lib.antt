@@ -3,8 +3,7 @@
 pub mod Lists
 pub mod Region
 pub mod Standing
-pub mod Ledger
 pub mod Check
 pub mod Patch
-pub mod PatchParts
 pub mod Edit
+pub mod parts

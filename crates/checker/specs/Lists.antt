@@ -20,11 +20,6 @@ unfoldable pub firstFrom : (ℕ → ℕ) → ℕ → ℕ → ℕ
 firstFrom f i zero = i
 firstFrom f i (suc count) = cond (eqb (f i) 0) (firstFrom f (suc i) count) i
 
--- at is that place, and number what f is there, or 0 where it is the end
-pub record First (f : ℕ → ℕ) (i count at number : ℕ) : Type 0 where
-  pub place : at ≡ firstFrom f i count
-  pub value : number ≡ cond (ltb at (i + count)) (f at) 0
-
 -- f i, f (i + 1), .., count of them
 unfoldable pub listFrom : (ℕ → ℕ) → ℕ → ℕ → List ℕ
 listFrom f i zero = []

@@ -47,12 +47,6 @@ unfoldable pub roleFrom : List ℕ → List ℕ → ℕ → ℕ → ℕ
 roleFrom ledger bytes first j =
     cond (leb first j && ltb j (first + length bytes / 4)) (roleAt bytes (j - first)) (getD ledger j 0 % 4)
 
--- whole bundles that stand within a region of n words, which ends within the sandbox
-pub record Stands (l : Layout) (n : ℕ) (bytes : List ℕ) (first : ℕ) : Type 0 where
-  pub whole : length bytes % 16 ≡ 0
-  pub inside : first + length bytes / 4 ≤ n
-  pub below : l .«code_start» + 4 * n ≤ 1_073_741_824
-
 -- which rule word k of the bytes breaks, the ledger being the region's
 unfoldable pub standingFault : Layout → List ℕ → List ℕ → ℕ → ℕ → ℕ
 standingFault l ledger bytes first k = faultAt l (length ledger) (roleFrom ledger bytes first) bytes first k

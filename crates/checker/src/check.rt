@@ -12,7 +12,7 @@ ghost use mathlib.Core.Path.{_≡_};
 ghost use Prim.Native.Nat.{_*_, _/_, _≤_};
 ghost use lib.ListN.{length};
 ghost use Rattle.rules.specs.Outcome.{refusedAt, reasonVerdict};
-ghost use Rattle.checker.specs.Standing.{Stands};
+ghost use Rattle.checker.specs.parts.Stands.{Stands};
 ghost use Rattle.checker.specs.Check.{ledgerOf, Checked};
 
 // The reason of a rule from 4 to 11, with its address.

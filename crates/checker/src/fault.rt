@@ -14,9 +14,10 @@ use rules::rule::landing;
 ghost use mathlib.Core.Path.{_≡_};
 ghost use Prim.Native.Nat.{_+_, _*_, _/_, _%_, _≤_, _<_};
 ghost use lib.ListN.{length};
-ghost use Rattle.checker.specs.Lists.{First};
+ghost use Rattle.checker.specs.parts.First.{First};
 ghost use Rattle.checker.specs.Region.{readingAt, beforeAt, nextAt};
-ghost use Rattle.checker.specs.Standing.{targetRole, roleFrom, standingFault, Stands};
+ghost use Rattle.checker.specs.Standing.{targetRole, roleFrom, standingFault};
+ghost use Rattle.checker.specs.parts.Stands.{Stands};
 
 // number is 0 where no word breaks a rule; at is then the number of words.
 pub(crate) struct Fault {

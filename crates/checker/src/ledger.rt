@@ -8,8 +8,9 @@ use rules::rule::landing;
 ghost use mathlib.Core.Path.{_≡_};
 ghost use Prim.Native.Nat.{_+_, _*_, _/_, _^_, _≤_, _<_};
 ghost use lib.ListN.{length, getD, set};
-ghost use Rattle.checker.specs.Standing.{landingAt, Stands};
-ghost use Rattle.checker.specs.Ledger.{Cleared, RolesWritten, Within, oneOn, Moved, MovedFirst};
+ghost use Rattle.checker.specs.Standing.{landingAt};
+ghost use Rattle.checker.specs.parts.Stands.{Stands};
+ghost use Rattle.checker.specs.parts.Ledger.{Cleared, RolesWritten, Within, oneOn, Moved, MovedFirst};
 
 pub(crate) fn clear(ledger: &mut [u32])
     ensures { λ _. ⌜ Cleared (now (ledger .entry)) (now (ledger .exit)) ⌝ }

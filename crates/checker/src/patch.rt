@@ -18,10 +18,12 @@ ghost use Prim.Native.Nat.{ℕ, _+_, _*_, _/_, _%_, _^_, _≤_, _<_};
 ghost use lib.ListN.{length, getD};
 ghost use Rattle.rules.specs.Layout.{addressOf};
 ghost use Rattle.checker.specs.Lists.{firstFrom};
-ghost use Rattle.checker.specs.Standing.{landings, Stands};
-ghost use Rattle.checker.specs.Ledger.{Within, Moved};
+ghost use Rattle.checker.specs.Standing.{landings};
+ghost use Rattle.checker.specs.parts.Stands.{Stands};
+ghost use Rattle.checker.specs.parts.Ledger.{Within, Moved};
 ghost use Rattle.checker.specs.Patch.{countsHold, rolesAgree, strandedAt, shapeHolds, Patched};
-ghost use Rattle.checker.specs.PatchParts.{countAt, Exchanges, BothStand, PatchedWords};
+ghost use Rattle.checker.specs.parts.Patch.{countAt, Exchanges, PatchedWords};
+ghost use Rattle.checker.specs.parts.Stands.{BothStand};
 
 // All the landings of the bytes are put on, or taken off; where a count would pass its bound, nothing is
 // changed.

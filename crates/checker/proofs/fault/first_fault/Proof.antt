@@ -5,7 +5,8 @@ use native.Mathlib.Omega.{arith}
 use mathlib.Core.Path.{_≡_, _∙_, refl, sym, ap, ap₂, subst}
 use lib.ListN.{length}
 use borrow.Author.Tests.{lt-ltb, le-ltb}
-use Rattle.checker.specs.Lists.{firstFrom, First}
+use Rattle.checker.specs.Lists.{firstFrom}
+use Rattle.checker.specs.parts.First.{First}
 use Rattle.checker.specs.Standing.{standingFault}
 use Rattle.checker.proofs.First.{first-cut, first-kept, first-value, first-end}
 use Rattle.checker.proofs.fault.first_fault.Statement.{statement}

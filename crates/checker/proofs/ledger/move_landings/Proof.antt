@@ -6,7 +6,7 @@ use mathlib.Core.Bool.{true}
 use lib.ListN.{length}
 use borrow.Author.Tests.{not-true, not-false}
 use Rattle.checker.specs.Standing.{landings}
-use Rattle.checker.specs.Ledger.{Moved}
+use Rattle.checker.specs.parts.Ledger.{Moved}
 use Rattle.checker.proofs.Moving.{moved-none, landings-none, within-then, next-moved, next-refused}
 use Rattle.checker.proofs.ledger.move_landings.Statement.{statement}
 use Rattle.checker.proofs.ledger.move_landings.Tie as tie

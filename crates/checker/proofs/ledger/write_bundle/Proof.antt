@@ -7,7 +7,7 @@ use lib.ListN.{length, getD, set, length-set}
 use mathlib.Core.List.{List}
 use Rattle.pairs.specs.Role.{rolesOf}
 use Rattle.checker.specs.Region.{bundleAt, roleAt}
-use Rattle.checker.specs.Ledger.{RolesWritten}
+use Rattle.checker.specs.parts.Ledger.{RolesWritten}
 use Rattle.pairs.proofs.Roles.{role-small}
 use Rattle.checker.proofs.Ledgers.{role-in-bundle, written-none, written-one, written-then}
 use Rattle.checker.proofs.ledger.write_bundle.Statement.{statement}

@@ -3,7 +3,7 @@ use Prim.Native.Nat.{ℕ, _+_, _-_, _*_, _/_, _≤_, _<_}
 use native.Mathlib.Omega.{arith}
 use mathlib.Core.Path.{_≡_, _∙_, refl, subst}
 use lib.ListN.{length, getD, set, length-set}
-use Rattle.checker.specs.Ledger.{RolesWritten}
+use Rattle.checker.specs.parts.Ledger.{RolesWritten}
 use Rattle.checker.proofs.Ledgers.{written-none, written-then}
 use Rattle.checker.proofs.ledger.write_roles.Statement.{statement}
 use Rattle.checker.proofs.ledger.write_roles.Tie as tie

@@ -4,7 +4,7 @@ use mathlib.Core.Path.{sym, subst}
 use mathlib.Core.List.{List}
 use Prim.Native.Nat.{ℕ}
 use borrow.Author.Tests.{not-true, not-false}
-use Rattle.checker.specs.Ledger.{Within}
+use Rattle.checker.specs.parts.Ledger.{Within}
 use Rattle.checker.proofs.Exchange.{uncounted, within-mid, exchanged, kept-out}
 use Rattle.checker.proofs.patch.exchange.Statement.{statement}
 use Rattle.checker.proofs.patch.exchange.Tie as tie

@@ -11,7 +11,7 @@ use Rattle.rules.specs.Rule.{landable}
 use Rattle.checker.specs.Lists.{firstFrom}
 use Rattle.checker.specs.Region.{roleAt}
 use Rattle.checker.specs.Patch.{strandedAt}
-use Rattle.checker.specs.PatchParts.{countAt}
+use Rattle.checker.specs.parts.Patch.{countAt}
 use Rattle.checker.proofs.First.{first-here, first-past}
 use Rattle.checker.proofs.patch.first_stranded.Statement.{statement}
 use Rattle.checker.proofs.patch.first_stranded.Tie as tie

@@ -2,7 +2,7 @@
 use borrow.Author.Needs.{needs}
 use mathlib.Core.Path.{sym, subst}
 use Prim.Native.Nat.{ℕ}
-use Rattle.checker.specs.Standing.{Stands}
+use Rattle.checker.specs.parts.Stands.{Stands}
 use Rattle.checker.proofs.Moving.{within-then, moved-whole, part-back}
 use Rattle.checker.proofs.patch.move_all.Statement.{statement}
 use Rattle.checker.proofs.patch.move_all.Tie as tie

@@ -11,9 +11,10 @@ use borrow.Author.Tests.{not-true, not-false}
 use Rattle.rules.specs.Outcome.{refusedAt}
 use Rattle.rules.specs.declared.outcome.Reason.the-variants.{Stranded}
 use Rattle.rules.specs.declared.outcome.Outcome.the-variants.{Refused}
-use Rattle.checker.specs.Ledger.{Within}
+use Rattle.checker.specs.parts.Ledger.{Within}
 use Rattle.checker.specs.Patch.{countsHold, rolesAgree, agrees}
-use Rattle.checker.specs.PatchParts.{Exchanges, BothStand, PatchedWords}
+use Rattle.checker.specs.parts.Patch.{Exchanges, PatchedWords}
+use Rattle.checker.specs.parts.Stands.{BothStand}
 use Rattle.checker.proofs.Exchange.{counts-within}
 use Rattle.checker.proofs.Undo.{within-after, undone}
 use Rattle.checker.proofs.Patches.{disagreed, counts-disagree, roles-disagree, exchange-says, fault-inside, fault-range, faulty, stranded, patched, ledger-moved, stand-exchanged}

@@ -8,20 +8,14 @@ use Rattle.rules.specs.declared.layout.Layout.{Layout}
 use Rattle.rules.specs.declared.outcome.Outcome.{Outcome}
 use Rattle.rules.specs.Outcome.{verdictOf}
 use Rattle.checker.specs.Lists.{firstFrom}
-use Rattle.checker.specs.Standing.{Stands}
+use Rattle.checker.specs.parts.Stands.{Stands}
 use Rattle.checker.specs.Check.{wordsOf, ledgerAfter}
-use Rattle.checker.specs.Ledger.{Swapped}
+use Rattle.checker.specs.parts.Ledger.{Swapped}
 use Rattle.checker.specs.Patch.{oldCounted, countLess, newFit, strandedAt, bundlesVerdict, movedLedger}
 
 -- the count of word j
 abbrev pub countAt : List ℕ → ℕ → ℕ
 countAt ledger j = getD ledger j 0 / 4
-
--- old and new bundles, as many, at the same place
-pub record BothStand (l : Layout) (n : ℕ) (old new : List ℕ) (first : ℕ) : Type 0 where
-  pub old′ : Stands l n old first
-  pub new′ : Stands l n new first
-  pub same : length old ≡ length new
 
 -- the branches are exchanged where 13 does not forbid it, and else nothing is changed; strand is the first new word at fault by 14
 pub record Exchanges (l : Layout) (old new : List ℕ) (first : ℕ) (before after : List ℕ) (ok : Bool) (strand : ℕ) : Type 0 where
