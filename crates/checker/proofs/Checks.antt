@@ -73,56 +73,66 @@ module _ (l : Layout) (code before : List ℕ) where
       unfolding checkVerdict ledgerAfter
       checked-3 n = let e = ne-eqb _ _ n in record { verdict = sym (simp (e1, e2, e)); ledger = sym (simp (e1, e2, e)) }
 
-      module _ (e3 : length before ≡ wordsOf code) where
-        pub stands : Stands l (length before) code 0
-        stands =
-            let end = layout-ends l (length code) e1 in
-            let right = length-says (length code) e2 in
-            record { whole = right .whole; inside = omega arith; below = bytes (right .whole) end }
-          where
-            bytes : length code % 16 ≡ 0 → l .«code_start» + length code ≤ 1_073_741_824 → l .«code_start» + 4 * length before ≤ 1_073_741_824
-            bytes w end = omega arith
+-- 1, 2 and 3 are kept
+pub record Kept (l : Layout) (code before : List ℕ) : Type 0 where
+  pub layout : layoutHolds l (length code) ≡ true
+  pub length′ : lengthHolds (length code) ≡ true
+  pub words : length before ≡ wordsOf code
 
-        -- after 1, 2 and 3 the words decide
-        by-words : checkVerdict l code (length before) ≡ wordsVerdict l code
-        unfolding checkVerdict
-        by-words = simp (e1, e2, eq-eqb _ _ e3)
+module _ {l : Layout} {code before : List ℕ} (k : Kept l code before) where
+  pub stands : Stands l (length before) code 0
+  stands =
+      let end = layout-ends l (length code) (k .layout) in
+      let right = length-says (length code) (k .length′) in
+      record { whole = right .whole; inside = omega arith; below = bytes (right .whole) end }
+    where
+      bytes : length code % 16 ≡ 0 → l .«code_start» + length code ≤ 1_073_741_824 → l .«code_start» + 4 * length before ≤ 1_073_741_824
+      bytes w end = omega arith
 
-        module _ (at number : ℕ) (found : First (standingFault l before code 0) 0 (length code / 4) at number) where
-          first-is : at ≡ firstFrom (codeFault l code) 0 (wordsOf code)
-          first-is = found .place ∙ first-same (standingFault l before code 0) (codeFault l code) 0 (wordsOf code) (λ j a b. same-fault l before code e3 j)
+  -- after 1, 2 and 3 the words decide
+  by-words : checkVerdict l code (length before) ≡ wordsVerdict l code
+  unfolding checkVerdict
+  by-words = simp (k .layout, k .length′, eq-eqb _ _ (k .words))
 
-          module _ (n : number ≡ 0 → ⊥) where
-            value : (at < 0 + length code / 4) × (number ≡ standingFault l before code 0 at)
-            value = first-value (standingFault l before code 0) 0 (length code / 4) at number found n
+  module _ {at number : ℕ} (found : First (standingFault l before code 0) 0 (length code / 4) at number) where
+    first-is : at ≡ firstFrom (codeFault l code) 0 (wordsOf code)
+    first-is = found .place ∙ first-same (standingFault l before code 0) (codeFault l code) 0 (wordsOf code) (λ j a b. same-fault l before code (k .words) j)
 
-            pub found-inside : at < wordsOf code
-            found-inside = let v = value .0 in omega arith
+    module _ (n : number ≡ 0 → ⊥) where
+      value : (at < 0 + length code / 4) × (number ≡ standingFault l before code 0 at)
+      value = first-value (standingFault l before code 0) 0 (length code / 4) at number found n
 
-            pub found-number : number ≡ codeFault l code at
-            found-number = value .1 ∙ same-fault l before code e3 at
+      found-inside : at < wordsOf code
+      found-inside = let v = value .0 in omega arith
 
-            pub found-range : (4 ≤ number) × (number ≤ 11)
-            unfolding codeFault faultAt
-            found-range =
-                let e = found-number in
-                let low = lowest l (wordsOf code) _ _ _ _ _ _ (λ z. n (e ∙ z)) in
-                subst (λ (x : ℕ). (4 ≤ x) × (x ≤ 11)) (sym e) (low .from-4, low .to-11)
+      -- its address lies within the sandbox
+      pub found-address : l .«code_start» + 4 * at < 1_073_741_824
+      found-address = let inside = found-inside in let end = stands .below in let words = k .words in omega arith
 
-            pub checked-word : (reason : Reason) → reasonVerdict reason ≡ refusedAt number (addressOf l at) → Checked l code before before (Refused reason)
-            unfolding wordsVerdict ledgerAfter
-            checked-word reason e =
-                let words : checkVerdict l code (length before) ≡ refusedAt number (addressOf l at) =
-                by-words ∙ rw (← first-is) (simp (lt-ltb at (wordsOf code) found-inside) (ap (λ (x : ℕ). refusedAt x (addressOf l at)) (sym found-number))) in
-                record { verdict = e ∙ sym words; ledger = sym (ap (λ (v : Verdict). ledgerAfter v (ledgerOf l code) before) words) }
+      found-number : number ≡ codeFault l code at
+      found-number = value .1 ∙ same-fault l before code (k .words) at
 
-          pub checked-all : number ≡ 0 → (after : List ℕ) → after ≡ ledgerOf l code → Checked l code before after Accepted
-          unfolding wordsVerdict ledgerAfter
-          checked-all z after e =
-              let end = first-end (standingFault l before code 0) 0 (length code / 4) at number found z in
-              let top : firstFrom (codeFault l code) 0 (wordsOf code) ≡ wordsOf code = sym first-is ∙ found .place ∙ end ∙ zero-add (wordsOf code) in
-              let words : checkVerdict l code (length before) ≡ accepted = by-words ∙ rw top (simp (le-ltb (wordsOf code) (wordsOf code) (omega arith))) in
-              record { verdict = sym words; ledger = e ∙ sym (ap (λ (v : Verdict). ledgerAfter v (ledgerOf l code) before) words) }
+      pub found-range : (4 ≤ number) × (number ≤ 11)
+      unfolding codeFault faultAt
+      found-range =
+          let e = found-number in
+          let low = lowest l (wordsOf code) _ _ _ _ _ _ (λ z. n (e ∙ z)) in
+          subst (λ (x : ℕ). (4 ≤ x) × (x ≤ 11)) (sym e) (low .from-4, low .to-11)
+
+      pub checked-word : (reason : Reason) → reasonVerdict reason ≡ refusedAt number (addressOf l at) → Checked l code before before (Refused reason)
+      unfolding wordsVerdict ledgerAfter
+      checked-word reason e =
+          let words : checkVerdict l code (length before) ≡ refusedAt number (addressOf l at) =
+          by-words ∙ rw (← first-is) (simp (lt-ltb at (wordsOf code) found-inside) (ap (λ (x : ℕ). refusedAt x (addressOf l at)) (sym found-number))) in
+          record { verdict = e ∙ sym words; ledger = sym (ap (λ (v : Verdict). ledgerAfter v (ledgerOf l code) before) words) }
+
+    pub checked-all : number ≡ 0 → (after : List ℕ) → after ≡ ledgerOf l code → Checked l code before after Accepted
+    unfolding wordsVerdict ledgerAfter
+    checked-all z after e =
+        let end = first-end (standingFault l before code 0) 0 (length code / 4) at number found z in
+        let top : firstFrom (codeFault l code) 0 (wordsOf code) ≡ wordsOf code = sym first-is ∙ found .place ∙ end ∙ zero-add (wordsOf code) in
+        let words : checkVerdict l code (length before) ≡ accepted = by-words ∙ rw top (simp (le-ltb (wordsOf code) (wordsOf code) (omega arith))) in
+        record { verdict = sym words; ledger = e ∙ sym (ap (λ (v : Verdict). ledgerAfter v (ledgerOf l code) before) words) }
 
 -- ---- the ledger
 

@@ -88,16 +88,20 @@ module _ (code : List ℕ) (offset : ℕ) (new : List ℕ) where
   edited-above i h high = list-at _ (length code) i h ∙ simp (le-leb offset i (omega arith), le-ltb i (offset + length new) high)
 
 module _ {code : List ℕ} {offset : ℕ} {new : List ℕ} (p : Placed code offset new) where
-  pub word-in : (k : ℕ) → k < length new / 4 → SameWord (edited code offset new) (offset / 4 + k) new k
-  word-in k h =
+  -- bytes that stand at the offset, word by word
+  pub placed-word : (xs ys : List ℕ) → ((i : ℕ) → i < length new → getD xs (offset + i) 0 ≡ getD ys i 0) → (k : ℕ) → k < length new / 4 → SameWord xs (offset / 4 + k) ys k
+  placed-word xs ys same k h =
       record {
         bundle′ =
             bundle-same _ _ _ _
             (λ i t.
             let x : offset + (16 * (k / 4) + i) ≡ 16 * ((offset / 4 + k) / 4) + i = omega arith in
-            subst (λ (u : ℕ). getD (edited code offset new) u 0 ≡ getD new (16 * (k / 4) + i) 0) x (edited-in code offset new (16 * (k / 4) + i) (omega arith) (p .fits)));
+            subst (λ (u : ℕ). getD xs u 0 ≡ getD ys (16 * (k / 4) + i) 0) x (same (16 * (k / 4) + i) (omega arith)));
         slot′ = omega arith;
       }
+
+  pub word-in : (k : ℕ) → k < length new / 4 → SameWord (edited code offset new) (offset / 4 + k) new k
+  word-in = placed-word (edited code offset new) new (λ i h. edited-in code offset new i h (p .fits))
 
   pub word-out : (j : ℕ) → j < length code / 4 → offset / 4 + length new / 4 ≤ j → SameWord (edited code offset new) j code j
   word-out j h high =

@@ -6,8 +6,9 @@ use native.Mathlib.Omega.{arith}
 use mathlib.Core.Path.{_≡_, _∙_, refl, sym, ap, ap₂, subst}
 use mathlib.Core.Bool.{Bool, true, false, _&&_, true≢false}
 use mathlib.Core.List.{List}
-use lib.ListN.{length, getD}
-use lib.Seq.{ext-getD}
+use lib.ListN.{length, getD, set}
+use lib.Seq.{ext-getD, getD-set-same, getD-set-other}
+use borrow.Author.Count.{below-more}
 use Rattle.decoder.proofs.Bools.{both, by-test}
 use Rattle.checker.specs.Lists.{sum, all, listFrom, listOf}
 
@@ -90,3 +91,7 @@ list-at f n k h = from-at f 0 n k h ∙ ap f (zero-add k)
 -- a list is `listOf` where each place is
 pub list-is : (l : List ℕ) (f : ℕ → ℕ) (n : ℕ) → length l ≡ n → ((k : ℕ) → k < n → getD l k 0 ≡ f k) → l ≡ listOf f n
 list-is l f n e h = ext-getD 0 l (listOf f n) (e ∙ sym (list-length f n)) (λ k a. let b : k < n = omega arith in h k b ∙ sym (list-at f n k b))
+
+-- a list is as f says up to one place more, once that place is written
+pub written-more : (l : List ℕ) (f : ℕ → ℕ) (i : ℕ) → i < length l → ((k : ℕ) → k < i → getD l k 0 ≡ f k) → (k : ℕ) → k < i + 1 → getD (set l i (f i)) k 0 ≡ f k
+written-more l f i h p = below-more _ i (λ k a. getD-set-other l i k (f i) 0 (λ e. omega arith) ∙ p k a) (getD-set-same l i (f i) 0 h)

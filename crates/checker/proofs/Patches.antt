@@ -2,10 +2,10 @@
 use Prim.Native.Nat.{ℕ, _+_, _-_, _*_, _/_, _%_, _≤_, _<_}
 use native.Mathlib.Nat.{zero-add}
 use native.Mathlib.Omega.{arith}
-use mathlib.Core.Path.{_≡_, _∙_, refl, sym, ap, ap₂, subst}
-use mathlib.Core.Bool.{Bool, true, false, not, _&&_, cond}
+use mathlib.Core.Path.{_≡_, _∙_, refl, sym, ap, subst}
+use mathlib.Core.Bool.{true, false, not, _&&_}
 use mathlib.Core.List.{List}
-use lib.Dec.{eqb, ltb, leb}
+use lib.Dec.{eqb, leb}
 use lib.ListN.{length, getD}
 use borrow.Author.Tests.{eqb-true, lt-ltb, le-ltb, le-leb, lt-leb, leb-true}
 use Rattle.decoder.proofs.Bools.{both}
@@ -15,7 +15,7 @@ use Rattle.rules.specs.declared.outcome.Outcome.{Outcome}
 use Rattle.rules.specs.declared.outcome.Reason.the-variants.{Layout as LayoutBroken, CodeLength, PatchShape, Disagreement, Stranded}
 use Rattle.rules.specs.declared.outcome.Outcome.the-variants.{Accepted, Refused}
 use Rattle.rules.specs.Layout.{layoutHolds, lengthHolds, addressOf}
-use Rattle.rules.specs.Outcome.{Verdict, accepted, refused, refusedAt, reasonVerdict}
+use Rattle.rules.specs.Outcome.{Verdict, accepted, refusedAt, reasonVerdict, verdictOf}
 use Rattle.rules.proofs.Says.{layout-ends}
 use Rattle.rules.proofs.Lowest.{lowest}
 use Rattle.checker.specs.Lists.{firstFrom}
@@ -23,14 +23,14 @@ use Rattle.checker.specs.parts.First.{First}
 use Rattle.checker.specs.Region.{roleAt}
 use Rattle.checker.specs.Standing.{landings, faultAt, roleFrom, standingFault}
 use Rattle.checker.specs.parts.Stands.{Stands}
-use Rattle.checker.specs.parts.Ledger.{RolesWritten, Within}
+use Rattle.checker.specs.parts.Ledger.{RolesWritten}
 use Rattle.checker.specs.Check.{wordsOf, ledgerAfter}
-use Rattle.checker.specs.Patch.{shapeHolds, countsHold, rolesAgree, oldCounted, countLess, newFit, strandedAt, agrees, strandedVerdict, newWordsVerdict, movedEntry, movedLedger, bundlesVerdict, patchVerdict, Patched}
-use Rattle.checker.specs.parts.Patch.{Exchanges, PatchedWords}
+use Rattle.checker.specs.Patch.{shapeHolds, countsHold, rolesAgree, oldCounted, countLess, newFit, agrees, strandedVerdict, newWordsVerdict, movedEntry, movedLedger, bundlesVerdict, patchVerdict, Patched}
+use Rattle.checker.specs.parts.Patch.{PatchedWords}
 use Rattle.checker.specs.parts.Stands.{BothStand}
 use Rattle.checker.proofs.First.{first-value, first-end}
 use Rattle.checker.proofs.Lists.{split, list-is}
-use Rattle.checker.proofs.Undo.{count-after, off-counted}
+use Rattle.checker.proofs.Undo.{Agreed, count-after}
 
 module _ (l : Layout) (ledger : List ℕ) (first : ℕ) (old new : List ℕ) where
   abbrev verdict : Verdict
@@ -65,13 +65,27 @@ module _ (l : Layout) (ledger : List ℕ) (first : ℕ) (old new : List ℕ) whe
       unfolding agrees
       exchange-says = sym (simp (counts, roles))
 
-  -- ---- the new words
+-- ---- the new words, once 13 is passed
 
-  module _ (agreed : agrees l ledger first old new ≡ true) (at number : ℕ) (found : First (standingFault l ledger new first) 0 (length new / 4) at number) where
-    by-words : verdict ≡ newWordsVerdict l ledger first old new
-    unfolding bundlesVerdict
-    by-words = simp agreed
+module _ {l : Layout} {ledger : List ℕ} {first : ℕ} {old new mid : List ℕ} {strand : ℕ} (g : Agreed l ledger first old new mid strand) where
+  -- the call that undoes it may be made
+  pub back-stands : BothStand l (length mid) new old first
+  back-stands =
+      record {
+        old′ = subst (λ (x : ℕ). Stands l x new first) (sym (g .same)) (g .stand .new′);
+        new′ = subst (λ (x : ℕ). Stands l x old first) (sym (g .same)) (g .stand .old′);
+        same = sym (g .stand .same);
+      }
 
+  -- each new word has an address
+  pub addressed : (n : ℕ) → n ≡ length mid → (k : ℕ) → k < wordsOf new → (l .«code_start» + 4 * n ≤ 1_073_741_824) × (first + k < n)
+  addressed n e k h = let same = g .same in let end = g .stand .new′ .inside in let top = g .stand .new′ .below in (omega arith, omega arith)
+
+  by-words : bundlesVerdict l ledger first old new ≡ newWordsVerdict l ledger first old new
+  unfolding bundlesVerdict
+  by-words = simp (g .agreed)
+
+  module _ {at number : ℕ} (found : First (standingFault l ledger new first) 0 (length new / 4) at number) where
     module _ (n : number ≡ 0 → ⊥) where
       value : (at < 0 + length new / 4) × (number ≡ standingFault l ledger new first at)
       value = first-value (standingFault l ledger new first) 0 (length new / 4) at number found n
@@ -89,40 +103,31 @@ module _ (l : Layout) (ledger : List ℕ) (first : ℕ) (old new : List ℕ) whe
       pub faulty : (reason : Reason) (after : List ℕ) → reasonVerdict reason ≡ refusedAt number (addressOf l (first + at)) → after ≡ ledger → PatchedWords l ledger first old new after old (Refused reason)
       unfolding newWordsVerdict ledgerAfter
       faulty reason after e same =
-          let words : verdict ≡ refusedAt number (addressOf l (first + at)) =
+          let words : bundlesVerdict l ledger first old new ≡ refusedAt number (addressOf l (first + at)) =
           by-words ∙ rw (← found .place) (simp (lt-ltb at (wordsOf new) fault-inside) (ap (λ (x : ℕ). refusedAt x (addressOf l (first + at))) (sym (value .1)))) in
-          refused-so reason (words ∙ sym e) (λ a b. ap (λ (x : Verdict). ledgerAfter x a b) e) after same
+          refused-so l ledger first old new reason (words ∙ sym e) (λ a b. ap (λ (x : Verdict). ledgerAfter x a b) e) after same
 
-    module _ (z : number ≡ 0) (strand : ℕ) (place : strand ≡ firstFrom (strandedAt (countLess l ledger old first) new first) 0 (wordsOf new)) where
-      by-strand : verdict ≡ strandedVerdict l ledger first old new
+    module _ (z : number ≡ 0) where
+      by-strand : bundlesVerdict l ledger first old new ≡ strandedVerdict l ledger first old new
       unfolding newWordsVerdict
       by-strand =
           let top : firstFrom (standingFault l ledger new first) 0 (wordsOf new) ≡ wordsOf new = first-end (standingFault l ledger new first) 0 (length new / 4) at number found z ∙ zero-add (wordsOf new) in
           by-words ∙ rw top (simp (le-ltb (wordsOf new) (wordsOf new) (omega arith)))
 
-      pub stranded : (after : List ℕ) → strand < wordsOf new → after ≡ ledger → PatchedWords l ledger first old new after old (Refused (Stranded (addressOf l (first + strand))))
+      pub stranded : strand < wordsOf new → (address : ℕ) → address ≡ addressOf l (first + strand) → (after : List ℕ) → after ≡ ledger → PatchedWords l ledger first old new after old (Refused (Stranded address))
       unfolding strandedVerdict ledgerAfter
-      stranded after h same =
-          refused-so (Stranded (addressOf l (first + strand))) (by-strand ∙ rw (← place) (simp (lt-ltb strand (wordsOf new) h))) (λ a b. refl) after same
+      stranded h address e after same =
+          refused-so l ledger first old new (Stranded address) (by-strand ∙ rw (← g .moved .place refl, e) (simp (lt-ltb strand (wordsOf new) h))) (λ a b. refl) after same
 
-      pub patched : (after bytes : List ℕ) → wordsOf new ≤ strand → after ≡ movedLedger l ledger first old new → bytes ≡ new → PatchedWords l ledger first old new after bytes Accepted
+      pub patched : wordsOf new ≤ strand → (after bytes : List ℕ) → after ≡ movedLedger l ledger first old new → bytes ≡ new → PatchedWords l ledger first old new after bytes Accepted
       unfolding strandedVerdict ledgerAfter
-      patched after bytes h moved written =
-          let v : verdict ≡ accepted = by-strand ∙ rw (← place) (simp (le-ltb strand (wordsOf new) h)) in
+      patched h after bytes moved written =
+          let v : bundlesVerdict l ledger first old new ≡ accepted = by-strand ∙ rw (← g .moved .place refl) (simp (le-ltb strand (wordsOf new) h)) in
           record {
             verdict = sym v;
             ledger′ = moved ∙ sym (ap (λ (x : Verdict). ledgerAfter x (movedLedger l ledger first old new) ledger) v);
             bytes = written ∙ sym (ap (λ (x : Verdict). ledgerAfter x new old) v);
           }
-
--- old and new bundles exchanged
-pub stand-exchanged : (l : Layout) (n m : ℕ) (old new : List ℕ) (first : ℕ) → m ≡ n → BothStand l n old new first → BothStand l m new old first
-stand-exchanged l n m old new first e s =
-    record {
-      old′ = subst (λ (x : ℕ). Stands l x new first) (sym e) (s .new′);
-      new′ = subst (λ (x : ℕ). Stands l x old first) (sym e) (s .old′);
-      same = sym (s .same);
-    }
 
 -- ---- the ledger
 
@@ -135,12 +140,11 @@ made-of a c r h k = omega arith
 quarters : (a c r s : ℕ) → a / 4 ≡ c → r ≡ s → a / 4 * 4 + r ≡ 4 * c + s
 quarters a c r s h k = omega arith
 
-module _ (l : Layout) (ledger : List ℕ) (first : ℕ) (old new mid after : List ℕ) (strand : ℕ)
-    (inside : first + length new / 4 ≤ length ledger) (m-length : length mid ≡ length ledger) (a-length : length after ≡ length mid)
-    (w : Within ledger) (x : Exchanges l old new first ledger mid true strand) (written : RolesWritten new first 0 (length new / 4) mid after) where
+module _ {l : Layout} {ledger : List ℕ} {first : ℕ} {old new mid : List ℕ} {strand : ℕ} (g : Agreed l ledger first old new mid strand)
+    (after : List ℕ) (a-length : length after ≡ length mid) (written : RolesWritten new first 0 (length new / 4) mid after) where
   count : (i : ℕ) → i < length ledger → getD mid i 0 / 4 ≡ countLess l ledger old first i + landings l (length ledger) new first (wordsOf new) i
   unfolding countLess
-  count i h = count-after l old new first ledger mid m-length strand w x i h
+  count i h = count-after g i h
 
   role-in : (k : ℕ) → k < wordsOf new → roleAt new k ≡ roleFrom ledger new first (first + k)
   unfolding roleFrom
@@ -160,16 +164,16 @@ module _ (l : Layout) (ledger : List ℕ) (first : ℕ) (old new mid after : Lis
   outside : (i : ℕ) → i < length ledger → getD after i 0 ≡ getD mid i 0 → getD ledger i 0 % 4 ≡ roleFrom ledger new first i → getD after i 0 ≡ movedEntry l ledger first old new i
   unfolding movedEntry
   outside i h same role =
-      same ∙ made-of (getD mid i 0) _ _ (count i h) (role-kept (getD mid i 0) (getD ledger i 0) _ _ (x .yes′ refl .moved i h) ∙ role)
+      same ∙ made-of (getD mid i 0) _ _ (count i h) (role-kept (getD mid i 0) (getD ledger i 0) _ _ (g .moved .yes′ refl .moved i h) ∙ role)
 
   within : (k : ℕ) → k < wordsOf new → getD after (first + k) 0 ≡ movedEntry l ledger first old new (first + k)
   unfolding movedEntry
-  within k h = written .inside k (omega arith) h ∙ quarters (getD mid (first + k) 0) _ _ _ (count (first + k) (omega arith)) (role-in k h)
+  within k h = written .inside k (omega arith) h ∙ quarters (getD mid (first + k) 0) _ _ _ (count (first + k) (let inside = g .stand .new′ .inside in omega arith)) (role-in k h)
 
   pub ledger-moved : after ≡ movedLedger l ledger first old new
   unfolding movedLedger
   ledger-moved =
-      list-is after _ (length ledger) (a-length ∙ m-length)
+      list-is after _ (length ledger) (a-length ∙ g .same)
       (λ i h.
       split first i
       (λ low.

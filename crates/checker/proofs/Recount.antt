@@ -1,12 +1,12 @@
 -- The landings of an edited region: those of the old bundles off and those of the new ones on; and the words outside that land on a word.
-use Prim.Native.Nat.{ℕ, zero, suc, _+_, _-_, _*_, _/_, _≤_, _<_}
+use Prim.Native.Nat.{ℕ, zero, suc, _+_, _-_, _≤_, _<_}
 use native.Mathlib.Nat.{zero-add, le-refl}
 use native.Mathlib.Omega.{arith}
 use mathlib.Core.Path.{_≡_, _∙_, refl, sym, ap, ap₂, subst}
 use mathlib.Core.Bool.{cond}
 use mathlib.Core.List.{List}
 use lib.Dec.{eqb}
-use lib.ListN.{length, getD}
+use lib.ListN.{length}
 use borrow.Author.Tests.{eqb-true, eqb-false}
 use Rattle.decoder.specs.declared.reading.Reading.{Reading}
 use Rattle.decoder.specs.Place.{targetOf}
@@ -19,7 +19,7 @@ use Rattle.checker.specs.Standing.{targetAt, landingAt, landings}
 use Rattle.checker.specs.Edit.{piece}
 use Rattle.checker.proofs.Lists.{split, sum-same, sum-cut, list-length, list-at}
 use Rattle.checker.proofs.Placed.{Placed, Parts, parts}
-use Rattle.checker.proofs.Edited.{SameWord, reading-same, word-in, word-out, word-low, bundle-same}
+use Rattle.checker.proofs.Edited.{SameWord, reading-same, placed-word, word-in, word-out, word-low}
 
 pub target-same : (l : Layout) (n : ℕ) (xs : List ℕ) (a j : ℕ) (ys : List ℕ) (b k : ℕ) → SameWord xs j ys k → a + j ≡ b + k → targetAt l n xs a j ≡ targetAt l n ys b k
 unfolding targetAt
@@ -64,15 +64,7 @@ module _ (l : Layout) {code : List ℕ} {offset : ℕ} {new : List ℕ} (p : Pla
   -- the old bundles' words are the region's
   pub word-old : (k : ℕ) → k < m → SameWord code (first + k) old k
   unfolding piece
-  word-old k h =
-      record {
-        bundle′ =
-            bundle-same _ _ _ _
-            (λ i t.
-            let x : offset + (16 * (k / 4) + i) ≡ 16 * ((offset / 4 + k) / 4) + i = omega arith in
-            sym (list-at _ (length new) (16 * (k / 4) + i) (omega arith) ∙ ap (λ (u : ℕ). getD code u 0) x));
-        slot′ = omega arith;
-      }
+  word-old = placed-word p code old (λ i h. sym (list-at _ (length new) i h))
 
   -- 1 where word k of the bytes lands on word j
   abbrev pub lands : List ℕ → ℕ → ℕ → ℕ → ℕ

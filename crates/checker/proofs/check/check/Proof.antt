@@ -1,12 +1,13 @@
 -- `check::check` meets its contract: the tests that led to each `return` say which case of the definition holds.
 use borrow.Author.Needs.{needs}
 use borrow.Author.Tests.{not-true, not-false}
+use Prim.Native.Nat.{_+_, _*_, _<_}
 use native.Mathlib.Omega.{arith}
 use mathlib.Core.Path.{_≡_, _∙_, sym}
 use mathlib.Core.Bool.{true}
 use lib.ListN.{length}
 use Rattle.rules.specs.Layout.{layoutHolds, lengthHolds}
-use Rattle.checker.proofs.Checks.{checked-1, checked-2, checked-3, stands, found-inside, found-range, checked-word, checked-all}
+use Rattle.checker.proofs.Checks.{checked-1, checked-2, checked-3, Kept, stands, found-address, found-range, checked-word, checked-all}
 use Rattle.checker.proofs.check.check.Statement.{statement}
 use Rattle.checker.proofs.check.check.Tie as tie
 
@@ -17,6 +18,17 @@ e1 c = sym (c .before .layout-holds .ensures) ∙ not-false (c .before .layout-h
 
 e2 : (c : tie.Else2) → lengthHolds (length (c .before .before .before .before .before .before .args .code .now)) ≡ true
 e2 c = sym (c .before .length-holds .ensures) ∙ not-false (c .before .length-holds .result) (c .if2 .left)
+
+-- the function's entry, from where 1, 2 and 3 are passed
+abbrev entry : tie.Else3 → tie.Start
+entry c = c .before .before .before .before .before .before .before
+
+kept : (c : tie.Else3) → Kept (entry c .args .layout) (entry c .args .code .now) (entry c .args .ledger .now)
+kept c = record { layout = e1 (c .before .before .before); length′ = e2 (c .before); words = c .if3 .left }
+
+-- the address of the word at fault
+address-fits : (c : tie.Then4) → entry (c .before .before .before) .args .layout .«code_start» + 4 * c .before .first-fault .result .at < 1_073_741_824
+address-fits c = found-address (kept (c .before .before .before)) (c .before .first-fault .ensures) (c .if4 .taken)
 
 layout-holds-requires : tie.Need-layout-holds-requires
 layout-holds-requires c κs = search needs
@@ -31,101 +43,47 @@ length-holds-requires c κs = search needs
 
 returns-2 : tie.Need-returns-2
 returns-2 c =
-    let c1 = c .before .before in
-    let a = c1 .before .before .before .before .args in
-    checked-2 (a .layout) (a .code .now) (a .ledger .now) (e1 c1) (sym (c .before .length-holds .ensures) ∙ not-true (c .before .length-holds .result) (c .if2 .taken))
+    let a = c .before .before .before .before .before .before .args in
+    checked-2 (a .layout) (a .code .now) (a .ledger .now) (e1 (c .before .before)) (sym (c .before .length-holds .ensures) ∙ not-true (c .before .length-holds .result) (c .if2 .taken))
 
 returns-3 : tie.Need-returns-3
 returns-3 c =
-    let c2 = c .before in
-    let c1 = c2 .before .before in
-    let a = c1 .before .before .before .before .args in
-    checked-3 (a .layout) (a .code .now) (a .ledger .now) (e1 c1) (e2 c2) (c .if3 .taken)
+    let a = c .before .before .before .before .before .before .before .args in
+    checked-3 (a .layout) (a .code .now) (a .ledger .now) (e1 (c .before .before .before)) (e2 (c .before)) (c .if3 .taken)
 
 first-fault-requires : tie.Need-first-fault-requires
-first-fault-requires c κs =
-    let c3 = c .before in
-    let c2 = c3 .before in
-    let c1 = c2 .before .before in
-    let a = c1 .before .before .before .before .args in
-    stands (a .layout) (a .code .now) (a .ledger .now) (e1 c1) (e2 c2) (c3 .if3 .left)
+first-fault-requires c κs = stands (kept (c .before))
 
 mul-at : tie.Need-mul-at
-mul-at c =
-    let c3 = c .before .before .before .before in
-    let c2 = c3 .before in
-    let c1 = c2 .before .before in
-    let a = c1 .before .before .before .before .args in
-    let f = c .before .before .first-fault in
-    let at = found-inside (a .layout) (a .code .now) (a .ledger .now) (e1 c1) (e2 c2) (c3 .if3 .left) (f .result .at) (f .result .number) (f .ensures) (c .before .if4 .taken) in
-    let room = stands (a .layout) (a .code .now) (a .ledger .now) (e1 c1) (e2 c2) (c3 .if3 .left) in
-    let same = c3 .if3 .left in
-    omega arith
+mul-at c = let fits = address-fits (c .before) in omega arith
 
 cast-at : tie.Need-cast-at
-cast-at c =
-    let c3 = c .before .before .before .before in
-    let c2 = c3 .before in
-    let c1 = c2 .before .before in
-    let a = c1 .before .before .before .before .args in
-    let f = c .before .before .first-fault in
-    let at = found-inside (a .layout) (a .code .now) (a .ledger .now) (e1 c1) (e2 c2) (c3 .if3 .left) (f .result .at) (f .result .number) (f .ensures) (c .before .if4 .taken) in
-    let room = stands (a .layout) (a .code .now) (a .ledger .now) (e1 c1) (e2 c2) (c3 .if3 .left) in
-    let same = c3 .if3 .left in
-    omega arith
+cast-at c = let fits = address-fits (c .before) in omega arith
 
 add-at : tie.Need-add-at
-add-at c =
-    let c3 = c .before .before .before .before .before in
-    let c2 = c3 .before in
-    let c1 = c2 .before .before in
-    let a = c1 .before .before .before .before .args in
-    let f = c .before .before .before .first-fault in
-    let at = found-inside (a .layout) (a .code .now) (a .ledger .now) (e1 c1) (e2 c2) (c3 .if3 .left) (f .result .at) (f .result .number) (f .ensures) (c .before .before .if4 .taken) in
-    let room = stands (a .layout) (a .code .now) (a .ledger .now) (e1 c1) (e2 c2) (c3 .if3 .left) in
-    let same = c3 .if3 .left in
-    omega arith
+add-at c = let fits = address-fits (c .before .before) in omega arith
 
 reason-requires : tie.Need-reason-requires
-reason-requires c κs =
-    let c3 = c .before .before .before .before .before in
-    let c2 = c3 .before in
-    let c1 = c2 .before .before in
-    let a = c1 .before .before .before .before .args in
-    let f = c .before .before .before .first-fault in
-    found-range (a .layout) (a .code .now) (a .ledger .now) (e1 c1) (e2 c2) (c3 .if3 .left) (f .result .at) (f .result .number) (f .ensures) (c .before .before .if4 .taken)
+reason-requires c κs = found-range (kept (c .before .before .before .before .before)) (c .before .before .before .first-fault .ensures) (c .before .before .if4 .taken)
 
 same-length : tie.Need-same-length
 same-length c = search needs
 
 returns-4 : tie.Need-returns-4
 returns-4 c =
-    let c3 = c .before .before .before .before .before .before in
-    let c2 = c3 .before in
-    let c1 = c2 .before .before in
-    let a = c1 .before .before .before .before .args in
-    let f = c .before .before .before .before .first-fault in
-    checked-word (a .layout) (a .code .now) (a .ledger .now) (e1 c1) (e2 c2) (c3 .if3 .left) (f .result .at) (f .result .number) (f .ensures) (c .before .before .before .if4 .taken) (c .reason .result) (c .reason .ensures)
+    checked-word (kept (c .before .before .before .before .before .before)) (c .before .before .before .before .first-fault .ensures) (c .before .before .before .if4 .taken) (c .reason .result) (c .reason .ensures)
 
 write-ledger-requires : tie.Need-write-ledger-requires
-write-ledger-requires c κs =
-    let c3 = c .before .before .before .before in
-    let c2 = c3 .before in
-    let c1 = c2 .before .before in
-    let a = c1 .before .before .before .before .args in
-    (stands (a .layout) (a .code .now) (a .ledger .now) (e1 c1) (e2 c2) (c3 .if3 .left), c3 .if3 .left)
+write-ledger-requires c κs = let k = kept (c .before .before .before .before) in (stands k, k .words)
 
 same-length-2 : tie.Need-same-length-2
 same-length-2 c = search needs
 
 returns-5 : tie.Need-returns-5
 returns-5 c =
-    let c3 = c .before .before .before .before .before .before .before in
-    let c2 = c3 .before in
-    let c1 = c2 .before .before in
-    let a = c1 .before .before .before .before .args in
-    let f = c .before .before .before .before .before .first-fault in
-    checked-all (a .layout) (a .code .now) (a .ledger .now) (e1 c1) (e2 c2) (c3 .if3 .left) (f .result .at) (f .result .number) (f .ensures) (c .before .before .before .before .if4 .left) (c .before .before .write-ledger .last .1 .1 .0) (c .before .before .write-ledger .ensures)
+    let k = kept (c .before .before .before .before .before .before .before) in
+    let write = c .before .before .write-ledger in
+    checked-all k (c .before .before .before .before .before .first-fault .ensures) (c .before .before .before .before .if4 .left) (write .last .1 .1 .0) (write .ensures)
 
 pub check-spec : {M : Type 1} → statement M
 check-spec =

@@ -1,12 +1,9 @@
 -- `ledger::clear` meets its contract. The invariant: the entries passed are 0.
-use Prim.Native.Nat.{ℕ, _+_, _-_, _*_, _/_, _≤_, _<_}
+use Prim.Native.Nat.{ℕ, _-_, _≤_, _<_}
 use native.Mathlib.Omega.{arith}
 use mathlib.Core.Path.{_≡_, _∙_, refl}
-use lib.ListN.{length, getD, set, length-set}
-use lib.Seq.{getD-set-same, getD-set-other}
-use native.Mathlib.Decide.{ℕ-discrete}
-use borrow.Author.Count.{below-more}
-use mathlib.Core.List.{List}
+use lib.ListN.{length, getD, length-set}
+use Rattle.checker.proofs.Lists.{written-more}
 use Rattle.checker.proofs.ledger.clear.Statement.{statement}
 use Rattle.checker.proofs.ledger.clear.Tie as tie
 
@@ -33,13 +30,8 @@ loop-less c = omega arith
 
 loop-again : tie.Need-loop-again Inv-loop μ-loop
 loop-again c =
-    let at = c .before in
-    let l = at .loop .ledger in
-    let i = at .loop .i in (
-      omega arith,
-      length-set l i 0 ∙ at .loop .inv .1,
-      below-more _ i (λ t h. getD-set-other l i t 0 0 (λ e. omega arith) ∙ at .loop .inv .2 t h) (getD-set-same l i 0 0 (c .loop-test .taken)),
-    )
+    let at = c .before .loop in
+    (omega arith, length-set (at .ledger) (at .i) 0 ∙ at .inv .1, written-more (at .ledger) (λ _. 0) (at .i) (c .loop-test .taken) (at .inv .2))
 
 same-length : tie.Need-same-length Inv-loop μ-loop
 same-length c = c .before .loop .inv .1

@@ -1,10 +1,10 @@
 -- `patch::copy` meets its contract. The invariant: the bytes passed are the new ones.
-use Prim.Native.Nat.{ℕ, _+_, _-_, _*_, _/_, _≤_, _<_}
+use Prim.Native.Nat.{ℕ, _-_, _≤_, _<_}
 use native.Mathlib.Omega.{arith}
 use mathlib.Core.Path.{_≡_, _∙_, refl}
-use lib.ListN.{length, getD, set, length-set}
-use lib.Seq.{getD-set-same, getD-set-other, ext-getD}
-use borrow.Author.Count.{below-more}
+use lib.ListN.{length, getD, length-set}
+use lib.Seq.{ext-getD}
+use Rattle.checker.proofs.Lists.{written-more}
 use Rattle.checker.proofs.patch.copy.Statement.{statement}
 use Rattle.checker.proofs.patch.copy.Tie as tie
 
@@ -31,14 +31,9 @@ loop-less c = omega arith
 
 loop-again : tie.Need-loop-again Inv-loop μ-loop
 loop-again c =
-    let at = c .before .before in
-    let l = at .loop .old in
-    let i = at .loop .i in
-    let new = c .before .before .before .args .new .now in (
-      omega arith,
-      length-set l i (getD new i 0) ∙ at .loop .inv .1,
-      below-more _ i (λ t h. getD-set-other l i t (getD new i 0) 0 (λ e. omega arith) ∙ at .loop .inv .2 t h) (getD-set-same l i (getD new i 0) 0 (c .before .loop-test .taken)),
-    )
+    let at = c .before .before .loop in
+    let new = c .before .before .before .args .new .now in
+    (omega arith, length-set (at .old) (at .i) (getD new (at .i) 0) ∙ at .inv .1, written-more (at .old) (λ t. getD new t 0) (at .i) (c .before .loop-test .taken) (at .inv .2))
 
 same-length : tie.Need-same-length Inv-loop μ-loop
 same-length c = c .before .loop .inv .1

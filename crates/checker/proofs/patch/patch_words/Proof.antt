@@ -1,23 +1,19 @@
 -- `patch::patch_words` meets its contract: the tests that led to each `return` say which case of the definition holds, and a refusal has
 -- undone what it moved.
 use borrow.Author.Needs.{needs}
-use Prim.Native.Nat.{ℕ, _+_, _*_, _/_, _≤_, _<_}
+use Prim.Native.Nat.{ℕ, _+_, _*_, _≤_, _<_}
 use native.Mathlib.Omega.{arith}
-use mathlib.Core.Path.{_≡_, _∙_, refl, sym, ap, subst}
+use mathlib.Core.Path.{_≡_, _∙_, sym, ap, subst}
 use mathlib.Core.Bool.{Bool, true}
 use mathlib.Core.List.{List}
-use lib.ListN.{length, getD}
+use lib.ListN.{length}
 use borrow.Author.Tests.{not-true, not-false}
 use Rattle.rules.specs.Outcome.{refusedAt}
-use Rattle.rules.specs.declared.outcome.Reason.the-variants.{Stranded}
-use Rattle.rules.specs.declared.outcome.Outcome.the-variants.{Refused}
-use Rattle.checker.specs.parts.Ledger.{Within}
-use Rattle.checker.specs.Patch.{countsHold, rolesAgree, agrees}
+use Rattle.checker.specs.Patch.{countsHold, rolesAgree}
 use Rattle.checker.specs.parts.Patch.{Exchanges, PatchedWords}
-use Rattle.checker.specs.parts.Stands.{BothStand}
 use Rattle.checker.proofs.Exchange.{counts-within}
-use Rattle.checker.proofs.Undo.{within-after, undone}
-use Rattle.checker.proofs.Patches.{disagreed, counts-disagree, roles-disagree, exchange-says, fault-inside, fault-range, faulty, stranded, patched, ledger-moved, stand-exchanged}
+use Rattle.checker.proofs.Undo.{Agreed, within-after, undone}
+use Rattle.checker.proofs.Patches.{disagreed, counts-disagree, roles-disagree, exchange-says, back-stands, addressed, fault-inside, fault-range, faulty, stranded, patched, ledger-moved}
 use Rattle.checker.proofs.patch.patch_words.Statement.{statement}
 use Rattle.checker.proofs.patch.patch_words.Tie as tie
 
@@ -29,32 +25,33 @@ e-counts c = sym (c .before .counts-hold .ensures) ∙ not-false (c .before .cou
 e-roles : (c : tie.Else2) → rolesAgree (c .before .before .before .before .before .before .before .before .before .before .args .ledger .now) (c .before .before .before .before .before .before .before .before .before .before .args .old .now) (c .before .before .before .before .before .before .before .before .before .before .args .first) ≡ true
 e-roles c = sym (c .before .roles-agree .ensures) ∙ not-false (c .before .roles-agree .result) (c .if2 .left)
 
-exchanged : (c : tie.Else3) → Exchanges (c .before .before .before .before .before .before .before .before .before .before .before .before .before .before .before .before .before .before .before .args .layout) (c .before .before .before .before .before .before .before .before .before .before .before .before .before .before .before .before .before .before .before .args .old .now) (c .before .before .before .before .before .before .before .before .before .before .before .before .before .before .before .before .before .before .before .args .new .now) (c .before .before .before .before .before .before .before .before .before .before .before .before .before .before .before .before .before .before .before .args .first) (c .before .before .before .before .before .before .before .before .before .before .before .before .before .before .before .before .before .before .before .args .ledger .now) (c .before .before .before .before .exchange .last .1 .0) true (c .before .before .before .before .exchange .result .strand)
-exchanged c =
-    let a = c .before .before .before .before .before .before .before .before .before .before .before .before .before .before .before .before .before .before .before .args in
-    let x = c .before .before .before .before .exchange in
-    subst (λ (ok : Bool). Exchanges (a .layout) (a .old .now) (a .new .now) (a .first) (a .ledger .now) (x .last .1 .0) ok (x .result .strand)) (not-false (x .result .ok) (c .if3 .left)) (x .ensures)
+-- the function's entry, from where 13 is passed
+abbrev entry : tie.Else3 → tie.Start
+entry c = c .before .before .before .before .before .before .before .before .before .before .before .before .before .before .before .before .before .before .before
 
-agreed : (c : tie.Else3) → agrees (c .before .before .before .before .before .before .before .before .before .before .before .before .before .before .before .before .before .before .before .args .layout) (c .before .before .before .before .before .before .before .before .before .before .before .before .before .before .before .before .before .before .before .args .ledger .now) (c .before .before .before .before .before .before .before .before .before .before .before .before .before .before .before .before .before .before .before .args .first) (c .before .before .before .before .before .before .before .before .before .before .before .before .before .before .before .before .before .before .before .args .old .now) (c .before .before .before .before .before .before .before .before .before .before .before .before .before .before .before .before .before .before .before .args .new .now) ≡ true
+agreed : (c : tie.Else3) → Agreed (entry c .args .layout) (entry c .args .ledger .now) (entry c .args .first) (entry c .args .old .now) (entry c .args .new .now) (c .before .before .before .before .exchange .last .1 .0) (c .before .before .before .before .exchange .result .strand)
 agreed c =
-    let a = c .before .before .before .before .before .before .before .before .before .before .before .before .before .before .before .before .before .before .before .args in
-    sym (exchange-says (a .layout) (a .ledger .now) (a .first) (a .old .now) (a .new .now) (e-counts (c .before .before .before .before .before .before .before .before .before .before .before .before .before)) (e-roles (c .before .before .before .before .before .before .before .before .before))) ∙ sym (exchanged c .answer)
-
--- ---- undoing
-
-undo-requires : (c : tie.Else3) → (BothStand (c .before .before .before .before .before .before .before .before .before .before .before .before .before .before .before .before .before .before .before .args .layout) (length (c .before .before .before .before .exchange .last .1 .0)) (c .before .before .before .before .before .before .before .before .before .before .before .before .before .before .before .before .before .before .before .args .new .now) (c .before .before .before .before .before .before .before .before .before .before .before .before .before .before .before .before .before .before .before .args .old .now) (c .before .before .before .before .before .before .before .before .before .before .before .before .before .before .before .before .before .before .before .args .first)) × (Within (c .before .before .before .before .exchange .last .1 .0))
-undo-requires c =
-    let a = c .before .before .before .before .before .before .before .before .before .before .before .before .before .before .before .before .before .before .before .args in
-    let x = c .before .before .before .before .exchange in (
-      stand-exchanged (a .layout) (length (a .ledger .now)) (length (x .last .1 .0)) (a .old .now) (a .new .now) (a .first) (x .kept .1 .0) (c .before .before .before .before .before .before .before .before .before .before .before .before .before .before .before .before .before .before .before .pre),
-      within-after (a .layout) (a .old .now) (a .new .now) (a .first) (a .ledger .now) (x .last .1 .0) (x .kept .1 .0) (x .result .strand) (counts-within (a .ledger .now) (e-counts (c .before .before .before .before .before .before .before .before .before .before .before .before .before))) (exchanged c),
-    )
-
-undo : (c : tie.Else3) (last : List ℕ) (ok : Bool) (s : ℕ) → length last ≡ length (c .before .before .before .before .exchange .last .1 .0) → Exchanges (c .before .before .before .before .before .before .before .before .before .before .before .before .before .before .before .before .before .before .before .args .layout) (c .before .before .before .before .before .before .before .before .before .before .before .before .before .before .before .before .before .before .before .args .new .now) (c .before .before .before .before .before .before .before .before .before .before .before .before .before .before .before .before .before .before .before .args .old .now) (c .before .before .before .before .before .before .before .before .before .before .before .before .before .before .before .before .before .before .before .args .first) (c .before .before .before .before .exchange .last .1 .0) last ok s → last ≡ c .before .before .before .before .before .before .before .before .before .before .before .before .before .before .before .before .before .before .before .args .ledger .now
-undo c =
-    let a = c .before .before .before .before .before .before .before .before .before .before .before .before .before .before .before .before .before .before .before .args in
+    let start = entry c in
+    let a = start .args in
     let x = c .before .before .before .before .exchange in
-    undone (a .layout) (a .old .now) (a .new .now) (a .first) (a .ledger .now) (x .last .1 .0) (x .kept .1 .0) (x .result .strand) (counts-within (a .ledger .now) (e-counts (c .before .before .before .before .before .before .before .before .before .before .before .before .before))) (exchanged c)
+    let yes′ = not-false (x .result .ok) (c .if3 .left) in
+    let counts = e-counts (c .before .before .before .before .before .before .before .before .before .before .before .before .before) in
+    record {
+      stand = start .pre;
+      within = counts-within (a .ledger .now) counts;
+      agreed = sym (exchange-says (a .layout) (a .ledger .now) (a .first) (a .old .now) (a .new .now) counts (e-roles (c .before .before .before .before .before .before .before .before .before))) ∙ sym (x .ensures .answer) ∙ yes′;
+      same = x .kept .1 .0;
+      moved = subst (λ (ok : Bool). Exchanges (a .layout) (a .old .now) (a .new .now) (a .first) (a .ledger .now) (x .last .1 .0) ok (x .result .strand)) yes′ (x .ensures);
+    }
+
+-- the addresses of the words at fault, after the exchange is undone
+fault-addressed : (c : tie.After-struct-known2) → (entry (c .before .before .before .before .before .before .before .before) .args .layout .«code_start» + 4 * length (c .before .before .before .before .exchange2 .last .1 .0) ≤ 1_073_741_824) × (entry (c .before .before .before .before .before .before .before .before) .args .first + c .before .before .before .before .before .before .before .before .before .before .before .before .before .before .before .first-fault .result .at < length (c .before .before .before .before .exchange2 .last .1 .0))
+fault-addressed c =
+    let g = agreed (c .before .before .before .before .before .before .before .before) in
+    addressed g _ (c .before .before .before .before .exchange2 .kept .1 .0) _ (fault-inside g (c .before .before .before .before .before .before .before .before .before .before .before .before .before .before .before .first-fault .ensures) (c .before .before .before .before .before .before .before .if4 .taken))
+
+strand-addressed : (c : tie.After-address-arg2) → (entry (c .before .before .before .before .before .before .before .before) .args .layout .«code_start» + 4 * length (c .before .before .before .exchange3 .last .1 .0) ≤ 1_073_741_824) × (entry (c .before .before .before .before .before .before .before .before) .args .first + c .before .before .before .before .before .before .before .before .before .before .before .before .exchange .result .strand < length (c .before .before .before .exchange3 .last .1 .0))
+strand-addressed c = addressed (agreed (c .before .before .before .before .before .before .before .before)) _ (c .before .before .before .exchange3 .kept .1 .0) _ (c .before .before .before .before .before .before .if5 .taken)
 
 counts-hold-requires : tie.Need-counts-hold-requires
 counts-hold-requires c κs = search needs
@@ -104,35 +101,16 @@ returns-3 c =
     (disagreed (a .layout) (a .ledger .now) (a .first) (a .old .now) (a .new .now) (sym (exchange-says (a .layout) (a .ledger .now) (a .first) (a .old .now) (a .new .now) (e-counts (c .before .before .before .before .before .before .before .before .before .before .before .before .before)) (e-roles (c .before .before .before .before .before .before .before .before .before))) ∙ sym (x .ensures .answer) ∙ no))
 
 exchange-requires-2 : tie.Need-exchange-requires-2
-exchange-requires-2 c κs = undo-requires (c .before .before .before)
+exchange-requires-2 c κs = let g = agreed (c .before .before .before) in (back-stands g, within-after g)
 
 add-address : tie.Need-add-address
-add-address c =
-    let a = c .before .before .before .before .before .before .before .before .before .before .before .before .before .before .before .before .before .before .before .before .before .before .before .before .before .before .before .args in
-    let f = c .before .before .before .before .before .before .before .before .before .before .before .before .before .before .before .first-fault in
-    let inside = fault-inside (a .layout) (a .ledger .now) (a .first) (a .old .now) (a .new .now) (agreed (c .before .before .before .before .before .before .before .before)) (f .result .at) (f .result .number) (f .ensures) (c .before .before .before .before .before .before .before .if4 .taken) in
-    let stand = c .before .before .before .before .before .before .before .before .before .before .before .before .before .before .before .before .before .before .before .before .before .before .before .before .before .before .before .pre .new′ in
-    let end = stand .inside in
-    let top = stand .below in
-    omega arith
+add-address c = let r = fault-addressed c in omega arith
 
 address-requires : tie.Need-address-requires
-address-requires c κs =
-    let a = c .before .before .before .before .before .before .before .before .before .before .before .before .before .before .before .before .before .before .before .before .before .before .before .before .before .before .before .args in
-    let f = c .before .before .before .before .before .before .before .before .before .before .before .before .before .before .before .first-fault in
-    let inside = fault-inside (a .layout) (a .ledger .now) (a .first) (a .old .now) (a .new .now) (agreed (c .before .before .before .before .before .before .before .before)) (f .result .at) (f .result .number) (f .ensures) (c .before .before .before .before .before .before .before .if4 .taken) in
-    let stand = c .before .before .before .before .before .before .before .before .before .before .before .before .before .before .before .before .before .before .before .before .before .before .before .before .before .before .before .pre .new′ in
-    let end = stand .inside in
-    let top = stand .below in
-    let back = c .before .before .before .before .exchange2 .kept .1 .0 in
-    let there = c .before .before .before .before .before .before .before .before .before .before .before .before .exchange .kept .1 .0 in
-    (omega arith, omega arith)
+address-requires c κs = fault-addressed c
 
 reason-requires : tie.Need-reason-requires
-reason-requires c κs =
-    let a = c .before .before .before .before .before .before .before .before .before .before .before .before .before .before .before .before .before .before .before .before .before .before .before .before .before .before .before .before .args in
-    let f = c .before .before .before .before .before .before .before .before .before .before .before .before .before .before .before .before .first-fault in
-    fault-range (a .layout) (a .ledger .now) (a .first) (a .old .now) (a .new .now) (agreed (c .before .before .before .before .before .before .before .before .before)) (f .result .at) (f .result .number) (f .ensures) (c .before .before .before .before .before .before .before .before .if4 .taken)
+reason-requires c κs = fault-range (agreed (c .before .before .before .before .before .before .before .before .before)) (c .before .before .before .before .before .before .before .before .before .before .before .before .before .before .before .before .first-fault .ensures) (c .before .before .before .before .before .before .before .before .if4 .taken)
 
 same-length-6 : tie.Need-same-length-6
 same-length-6 c = search needs
@@ -142,35 +120,20 @@ same-length-7 c = search needs
 
 returns-4 : tie.Need-returns-4
 returns-4 c =
-    let a = c .before .before .before .before .before .before .before .before .before .before .before .before .before .before .before .before .before .before .before .before .before .before .before .before .before .before .before .before .before .args in
+    let g = agreed (c .before .before .before .before .before .before .before .before .before .before) in
     let f = c .before .before .before .before .before .before .before .before .before .before .before .before .before .before .before .before .before .first-fault in
     let back = c .before .before .before .before .before .before .exchange2 in
-    faulty (a .layout) (a .ledger .now) (a .first) (a .old .now) (a .new .now) (agreed (c .before .before .before .before .before .before .before .before .before .before)) (f .result .at) (f .result .number) (f .ensures) (c .before .before .before .before .before .before .before .before .before .if4 .taken) (c .reason .result) (back .last .1 .0)
-    (c .reason .ensures ∙ ap (refusedAt (f .result .number)) (c .before .address .ensures))
-    (undo (c .before .before .before .before .before .before .before .before .before .before) (back .last .1 .0) (back .result .ok) (back .result .strand) (back .kept .1 .0) (back .ensures))
+    faulty g (f .ensures) (c .before .before .before .before .before .before .before .before .before .if4 .taken) (c .reason .result) _ (c .reason .ensures ∙ ap (refusedAt (f .result .number)) (c .before .address .ensures))
+    (undone g _ _ _ (back .kept .1 .0) (back .ensures))
 
 exchange-requires-3 : tie.Need-exchange-requires-3
-exchange-requires-3 c κs = undo-requires (c .before .before .before .before)
+exchange-requires-3 c κs = let g = agreed (c .before .before .before .before) in (back-stands g, within-after g)
 
 add-address-2 : tie.Need-add-address-2
-add-address-2 c =
-    let a = c .before .before .before .before .before .before .before .before .before .before .before .before .before .before .before .before .before .before .before .before .before .before .before .before .before .before .before .args in
-    let stand = c .before .before .before .before .before .before .before .before .before .before .before .before .before .before .before .before .before .before .before .before .before .before .before .before .before .before .before .pre .new′ in
-    let end = stand .inside in
-    let top = stand .below in
-    let h = c .before .before .before .before .before .before .if5 .taken in
-    omega arith
+add-address-2 c = let r = strand-addressed c in omega arith
 
 address-requires-2 : tie.Need-address-requires-2
-address-requires-2 c κs =
-    let a = c .before .before .before .before .before .before .before .before .before .before .before .before .before .before .before .before .before .before .before .before .before .before .before .before .before .before .before .args in
-    let stand = c .before .before .before .before .before .before .before .before .before .before .before .before .before .before .before .before .before .before .before .before .before .before .before .before .before .before .before .pre .new′ in
-    let end = stand .inside in
-    let top = stand .below in
-    let h = c .before .before .before .before .before .before .if5 .taken in
-    let back = c .before .before .before .exchange3 .kept .1 .0 in
-    let there = c .before .before .before .before .before .before .before .before .before .before .before .before .exchange .kept .1 .0 in
-    (omega arith, omega arith)
+address-requires-2 c κs = strand-addressed c
 
 same-length-8 : tie.Need-same-length-8
 same-length-8 c = search needs
@@ -180,13 +143,9 @@ same-length-9 c = search needs
 
 returns-5 : tie.Need-returns-5
 returns-5 c =
-    let a = c .before .before .before .before .before .before .before .before .before .before .before .before .before .before .before .before .before .before .before .before .before .before .before .before .before .before .before .before .args in
-    let f = c .before .before .before .before .before .before .before .before .before .before .before .before .before .before .before .before .first-fault in
-    let x = exchanged (c .before .before .before .before .before .before .before .before .before) in
+    let g = agreed (c .before .before .before .before .before .before .before .before .before) in
     let back = c .before .before .before .before .exchange3 in
-    subst (λ (at : ℕ). PatchedWords (a .layout) (a .ledger .now) (a .first) (a .old .now) (a .new .now) (back .last .1 .0) (a .old .now) (Refused (Stranded at))) (sym (c .address2 .ensures))
-    (stranded (a .layout) (a .ledger .now) (a .first) (a .old .now) (a .new .now) (agreed (c .before .before .before .before .before .before .before .before .before)) (f .result .at) (f .result .number) (f .ensures) (c .before .before .before .before .before .before .before .before .if4 .left) (c .before .before .before .before .before .before .before .before .before .before .before .before .before .exchange .result .strand) (x .place refl) (back .last .1 .0) (c .before .before .before .before .before .before .before .if5 .taken)
-    (undo (c .before .before .before .before .before .before .before .before .before) (back .last .1 .0) (back .result .ok) (back .result .strand) (back .kept .1 .0) (back .ensures)))
+    stranded g (c .before .before .before .before .before .before .before .before .before .before .before .before .before .before .before .before .first-fault .ensures) (c .before .before .before .before .before .before .before .before .if4 .left) (c .before .before .before .before .before .before .before .if5 .taken) (c .address2 .result) (c .address2 .ensures) _ (undone g _ _ _ (back .kept .1 .0) (back .ensures))
 
 write-roles-requires : tie.Need-write-roles-requires
 write-roles-requires c κs = search needs
@@ -202,14 +161,9 @@ same-length-11 c = search needs
 
 returns-6 : tie.Need-returns-6
 returns-6 c =
-    let a = c .before .before .before .before .before .before .before .before .before .before .before .before .before .before .before .before .before .before .before .before .before .before .before .before .before .before .before .before .before .args in
-    let f = c .before .before .before .before .before .before .before .before .before .before .before .before .before .before .before .before .before .first-fault in
-    let x = exchanged (c .before .before .before .before .before .before .before .before .before .before) in
-    let moved = c .before .before .before .before .before .before .before .before .before .before .before .before .before .before .exchange in
+    let g = agreed (c .before .before .before .before .before .before .before .before .before .before) in
     let roles = c .before .before .before .before .before .before .write-roles in
-    patched (a .layout) (a .ledger .now) (a .first) (a .old .now) (a .new .now) (agreed (c .before .before .before .before .before .before .before .before .before .before)) (f .result .at) (f .result .number) (f .ensures) (c .before .before .before .before .before .before .before .before .before .if4 .left) (moved .result .strand) (x .place refl) (roles .last .1 .0) (c .before .before .copy .last .0) (c .before .before .before .before .before .before .before .before .if5 .left)
-    (ledger-moved (a .layout) (a .ledger .now) (a .first) (a .old .now) (a .new .now) (moved .last .1 .0) (roles .last .1 .0) (moved .result .strand) (c .before .before .before .before .before .before .before .before .before .before .before .before .before .before .before .before .before .before .before .before .before .before .before .before .before .before .before .before .before .pre .new′ .inside) (moved .kept .1 .0) (roles .kept .1 .0) (counts-within (a .ledger .now) (e-counts (c .before .before .before .before .before .before .before .before .before .before .before .before .before .before .before .before .before .before .before .before .before .before .before))) x (roles .ensures))
-    (c .before .before .copy .ensures)
+    patched g (c .before .before .before .before .before .before .before .before .before .before .before .before .before .before .before .before .before .first-fault .ensures) (c .before .before .before .before .before .before .before .before .before .if4 .left) (c .before .before .before .before .before .before .before .before .if5 .left) _ _ (ledger-moved g _ (roles .kept .1 .0) (roles .ensures)) (c .before .before .copy .ensures)
 
 pub patch-words-spec : {M : Type 1} → statement M
 patch-words-spec =
