@@ -1,5 +1,5 @@
 -- The check, on plain values: each of its answers is the one that the definition gives.
-use Prim.Native.Nat.{ℕ, _+_, _-_, _*_, _/_, _%_, _≤_, _<_}
+use Prim.Native.Nat.{ℕ, _+_, _*_, _/_, _%_, _≤_, _<_}
 use native.Mathlib.Nat.{zero-add, sub-zero, add-comm}
 use native.Mathlib.Omega.{arith}
 use mathlib.Core.Path.{_≡_, _∙_, refl, sym, ap, ap₂, subst}
@@ -15,7 +15,7 @@ use Rattle.rules.specs.declared.outcome.Reason.{Reason}
 use Rattle.rules.specs.declared.outcome.Reason.the-variants.{Layout as LayoutBroken, CodeLength, LedgerLength}
 use Rattle.rules.specs.declared.outcome.Outcome.the-variants.{Accepted, Refused}
 use Rattle.rules.specs.Layout.{layoutHolds, lengthHolds, addressOf}
-use Rattle.rules.specs.Outcome.{Verdict, accepted, refused, refusedAt, reasonVerdict}
+use Rattle.rules.specs.Outcome.{Verdict, accepted, refusedAt, reasonVerdict}
 use Rattle.rules.specs.Rule.{landingOf, faultOf}
 use Rattle.rules.proofs.Says.{layout-ends, length-says}
 use Rattle.rules.proofs.Lowest.{lowest}

@@ -15,7 +15,7 @@ use Rattle.rules.specs.declared.outcome.Outcome.{Outcome}
 use Rattle.rules.specs.declared.outcome.Reason.the-variants.{Layout as LayoutBroken, CodeLength, PatchShape, Disagreement, Stranded}
 use Rattle.rules.specs.declared.outcome.Outcome.the-variants.{Accepted, Refused}
 use Rattle.rules.specs.Layout.{layoutHolds, lengthHolds, addressOf}
-use Rattle.rules.specs.Outcome.{Verdict, accepted, refusedAt, reasonVerdict, verdictOf}
+use Rattle.rules.specs.Outcome.{Verdict, accepted, refusedAt, reasonVerdict}
 use Rattle.rules.proofs.Says.{layout-ends}
 use Rattle.rules.proofs.Lowest.{lowest}
 use Rattle.checker.specs.Lists.{firstFrom}

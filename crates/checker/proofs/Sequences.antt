@@ -2,14 +2,12 @@
 use Prim.Native.Nat.{ℕ, _+_, _-_, _/_, _≤_, _<_}
 use native.Mathlib.Omega.{arith}
 use mathlib.Core.Path.{_≡_, _∙_, refl, sym, ap, ap₂, subst}
-use mathlib.Core.Logic.{_↔_}
 use mathlib.Core.List.{List, [], _∷_}
 use lib.ListN.{length, getD}
 use lib.Seq.{ext-getD}
 use Rattle.rules.specs.declared.layout.Layout.{Layout}
 use Rattle.rules.specs.Outcome.{Verdict, accepted, refused, refusedAt}
 use Rattle.checker.specs.Check.{wordsOf, checkVerdict, ledgerOf, ledgerAfter}
-use Rattle.checker.specs.Patch.{movedLedger, patchVerdict}
 use Rattle.checker.specs.Edit.{piece, edited, Edit, Fits, AllFit, standing, answer, codeThen, ledgerThen, whole-edit, AsFresh, AllAsFresh}
 use Rattle.checker.proofs.Lists.{split, list-length, list-at}
 use Rattle.checker.proofs.Edited.{edited-length, edited-in, edited-below, edited-above}

@@ -1,5 +1,5 @@
 -- The words, readings and roles of a list of bytes. Words are 4 bytes, little-endian; a bundle is 16 bytes, its words slots 0 to 3.
-use Prim.Native.Nat.{ℕ, suc, _+_, _-_, _*_, _/_, _%_}
+use Prim.Native.Nat.{ℕ, _+_, _-_, _*_, _/_, _%_}
 use mathlib.Core.Bool.{cond}
 use mathlib.Core.List.{List, [], _∷_}
 use lib.Dec.{eqb}

@@ -1,7 +1,6 @@
 -- Bytes that stand in a region of n words, from word `first` on: where their branches land, and which rule each word breaks. The check has
 -- the whole region, from word 0; the patch has the bundles at its offset.
-use Prim.Native.Nat.{ℕ, _+_, _-_, _*_, _/_, _%_, _≤_}
-use mathlib.Core.Path.{_≡_}
+use Prim.Native.Nat.{ℕ, _+_, _-_, _/_, _%_}
 use mathlib.Core.Bool.{Bool, _&&_, cond}
 use mathlib.Core.List.{List}
 use lib.Dec.{eqb, ltb, leb}

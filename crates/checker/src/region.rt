@@ -5,7 +5,7 @@ use decoder::reading::Kind;
 use decoder::reading::Reading;
 use pairs::role::role_after;
 ghost use mathlib.Core.Path.{_≡_};
-ghost use Prim.Native.Nat.{_+_, _*_, _/_, _%_, _≤_, _<_};
+ghost use Prim.Native.Nat.{_+_, _*_, _%_, _≤_, _<_};
 ghost use lib.ListN.{length};
 ghost use Rattle.decoder.specs.Bundle.{blank as «blank-reading»};
 ghost use Rattle.checker.specs.Region.{wordAt, bundleAt, readingAt, beforeAt, nextAt, roleAt};

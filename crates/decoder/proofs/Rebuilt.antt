@@ -1,17 +1,17 @@
 -- A word in a class is rebuilt from its reading exactly. A word is cut at each field's lowest bit by `mod-pow-add`, and the
 -- fields that the class fixes are put in.
-use Prim.Native.Nat.{ℕ, suc, _+_, _-_, _*_, _/_, _%_, _^_, _<_}
+use Prim.Native.Nat.{ℕ, _+_, _*_, _/_, _%_, _^_, _<_}
 use native.Mathlib.Nat.{mod-eq-of-lt, div-one, zero-add}
 use native.Mathlib.Omega.{arith}
 use mathlib.Core.Path.{_≡_, _∙_, refl, sym, ap}
 use mathlib.Core.Logic.{_⊎_, ⊎-elim}
-use mathlib.Core.Bool.{Bool, true, false, not, _&&_, _||_, true≢false}
+use mathlib.Core.Bool.{true, false, true≢false}
 use lib.Dec.{eqb}
 use lib.Pow.{mod-pow-add, shr-shr}
 use lib.Arith.{digits-div, digits-mod}
 use borrow.Author.Tests.{eqb-true, eq-eqb, ne-eqb}
 use Rattle.decoder.specs.Bits.{bits}
-use Rattle.decoder.specs.Word.{conditionOf, rnOf, rdOf, isCompare, isMove, operationOf, sOf, dataShape, isData, operandOf, dataFields, isHalfMove, halfMoveKind, isNop, isMultiply, multiplyFields, isAnyAccess, isLiteralLoad, literalLoadKind, isAccess, accessFields, isBranch, branchKind, isRegisterBranch, registerBranchKind, kindOf, readingOf}
+use Rattle.decoder.specs.Word.{conditionOf, isData, operandOf, dataFields, isHalfMove, halfMoveKind, isNop, isMultiply, multiplyFields, isLiteralLoad, literalLoadKind, isAccess, accessFields, isBranch, branchKind, isRegisterBranch, registerBranchKind, kindOf, readingOf}
 use Rattle.decoder.specs.Question.{isUnlisted}
 use Rattle.decoder.specs.Bundle.{headWord, headReading, literalReading}
 use Rattle.decoder.specs.parts.Rebuild.{groupOf, operandBits, kindBits, wordOf}

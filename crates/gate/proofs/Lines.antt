@@ -2,8 +2,8 @@
 use Prim.Native.Nat.{ℕ, _≤_}
 use native.Mathlib.Omega.{arith}
 use mathlib.Core.Path.{_≡_, refl, sym}
-use mathlib.Core.Bool.{Bool, true, false, true≢false}
-use mathlib.Core.List.{List, _++_}
+use mathlib.Core.Bool.{true, false, true≢false}
+use mathlib.Core.List.{_++_}
 use Rattle.rules.specs.Outcome.{Verdict, accepted, refused, refusedAt, numberOf, carriesAddress, placeOf}
 use Rattle.gate.specs.Text.{ascii, numeral}
 use Rattle.gate.specs.Line.{lineOf}

@@ -1,9 +1,9 @@
 -- No word is in two pairs: the second word of a pair is no first word of another.
 use Prim.Native.Nat.{ℕ}
 use native.Mathlib.Omega.{arith}
-use mathlib.Core.Path.{_≡_, _∙_, refl, sym, ap, subst}
-use mathlib.Core.Logic.{_⊎_, ⊎-elim}
-use mathlib.Core.Bool.{Bool, true, false, not, _&&_, _||_, true≢false, false≢true}
+use mathlib.Core.Path.{_≡_, _∙_, sym, ap, subst}
+use mathlib.Core.Logic.{⊎-elim}
+use mathlib.Core.Bool.{true, not, _&&_, _||_, true≢false, false≢true}
 use lib.Dec.{eqb, ltb}
 use borrow.Author.Tests.{eqb-true}
 use Rattle.decoder.specs.Immediate.{valueOf}
@@ -16,7 +16,7 @@ use Rattle.decoder.specs.declared.reading.DataFields.{DataFields}
 use Rattle.decoder.specs.declared.reading.Kind.{Kind}
 use Rattle.decoder.specs.declared.reading.Kind.the-variants.{Data}
 use Rattle.decoder.specs.declared.reading.Reading.{Reading}
-use Rattle.decoder.proofs.Bools.{both, either, by-test}
+use Rattle.decoder.proofs.Bools.{both, either}
 use Rattle.decoder.proofs.Others.{from-data}
 
 -- ---- what a mask, and a test, say of the word

@@ -10,7 +10,7 @@ use lib.ListN.{getD}
 use borrow.Author.Tests.{eqb-true}
 use Rattle.decoder.specs.Word.{conditionOf, isData, isHalfMove, isNop, isMultiply, isLiteralLoad, isAccess, isBranch, isRegisterBranch, kindOf, readingOf}
 use Rattle.pairs.specs.Pair.{isPair}
-use Rattle.decoder.specs.Bundle.{headWord, headReading, literalReading, readingsOf, blank}
+use Rattle.decoder.specs.Bundle.{headWord, readingsOf}
 use Rattle.pairs.specs.Role.{plain, inner, data′, head, roleAlone, roleAfter, rolesOf}
 use Rattle.decoder.specs.declared.reading.Kind.{Kind}
 use Rattle.decoder.specs.declared.reading.Reading.{Reading}

@@ -3,17 +3,17 @@
 use Prim.Native.Nat.{ℕ, zero, suc, _-_, _<_}
 use native.Mathlib.Omega.{arith}
 use native.Mathlib.Nat.{not-suc-le-zero, le-of-suc-le-suc}
-use mathlib.Core.Path.{_≡_, _∙_, refl, sym}
+use mathlib.Core.Path.{_≡_, refl}
 use mathlib.Core.Logic.{_↔_}
 use mathlib.Core.Bool.{Bool, true, false, cond}
 use mathlib.Core.List.{List, [], _∷_}
 use lib.ListN.{getD}
 use lib.Dec.{eqb, ltb, lit<}
 use Rattle.pairs.specs.Mask.{isMask, isDataMask, isBranchMask, isTest}
-use Rattle.decoder.specs.Question.{baseOf, branchRegister, writesSp, keepsFlags}
+use Rattle.decoder.specs.Question.{baseOf, branchRegister, writesSp}
 use Rattle.pairs.specs.Pair.{canBeGuarded, maskGuards, testGuards, branchGuards, closes, isPair}
-use Rattle.decoder.specs.Bundle.{headWord, headReading, literalReading, readingsOf, slotReading, blank}
-use Rattle.pairs.specs.Role.{plain, inner, data′, head, roleAlone, roleAfter, rolesOf}
+use Rattle.decoder.specs.Bundle.{headWord, headReading, literalReading, readingsOf, blank}
+use Rattle.pairs.specs.Role.{inner, data′, head, roleAlone, roleAfter, rolesOf}
 use Rattle.decoder.specs.declared.reading.Reading.{Reading}
 use Rattle.decoder.specs.declared.reading.Kind.{Kind}
 use Rattle.decoder.specs.declared.reading.Kind.the-variants.{Unlisted, Data, HalfMove, Nop, Multiply, Access, LiteralLoad, Branch, RegisterBranch, Head, Literal}

@@ -2,6 +2,7 @@
 use Prim.Native.Nat.{ℕ}
 use mathlib.Core.Path.{_≡_}
 use mathlib.Core.Bool.{Bool, true, false}
+use mathlib.Core.List.{List, [], _∷_}
 use Rattle.decoder.specs.Word.{isCompare, isMove, isData, operandOf, dataFields, isHalfMove, isNop, isMultiply, multiplyFields, isAnyAccess, isLiteralLoad, isAccess, accessFields, isBranch, isRegisterBranch, kindOf, readingOf}
 use Rattle.decoder.specs.Bundle.{literalReading, blank}
 use Rattle.decoder.specs.Immediate.{rotated, valueOf}
@@ -26,7 +27,10 @@ at start end tests = record { «code_start» = start; «trampoline_first» = 655
 abbrev paper : Layout
 paper = at 131072 131072 true
 
--- the fault of a word in a slot of the first bundle, with nothing beside it
+-- the rules that a word breaks in a slot of the first bundle, with nothing beside it, and the lowest
+abbrev rulesAlone : ℕ → ℕ → List Bool
+rulesAlone word slot = rulesOf paper 4 blank (readingOf word) blank slot 131072 0
+
 abbrev faultAlone : ℕ → ℕ → ℕ
 faultAlone word slot = faultOf paper 4 blank (readingOf word) blank slot 131072 0
 
@@ -78,11 +82,14 @@ pub record Points : Type 0 where
   -- rule::landable
   pub inner-not-landable : landable 1 ≡ false
   pub head-landable : landable 3 ≡ true
+  -- rule::rules
+  pub breaks-8-and-9 : rulesAlone 0xE12F_FF30 0 ≡ false ∷ false ∷ false ∷ false ∷ true ∷ true ∷ false ∷ false ∷ []
+  pub breaks-9-alone : rulesAlone 0xEBFF_FFFE 2 ≡ false ∷ false ∷ false ∷ false ∷ false ∷ true ∷ false ∷ false ∷ []
   -- rule::fault
   pub lowest-of-5-and-8 : faultAlone 0xE12F_FF39 0 ≡ 5
   pub lowest-of-8-and-9 : faultAlone 0xE12F_FF30 0 ≡ 8
   pub call-9 : faultAlone 0xEBFF_FFFE 2 ≡ 9
 
 pub points : Points
-unfolding kindOf isData isCompare isMove isHalfMove isNop isMultiply isAnyAccess isLiteralLoad isAccess isBranch isRegisterBranch dataFields operandOf multiplyFields accessFields readingOf literalReading rotated valueOf behind signedStep targetOf literalOf operandNames names baseOf branchRegister writesSp keepsFlags takesSp isCall isUnlisted dataMaskValue branchMaskValue immediateIs isMask isDataMask isBranchMask isTest canBeGuarded maskGuards testGuards branchGuards closes sandboxEnd codeLimit layoutHolds lengthHolds reasonVerdict numberOf carriesAddress placeOf rule4 rule5 rule6 wantsGuard rule7 rule8 rule9 literalHolds rule10 wordAtAddress landingOf inTrampolines landable rule11 rulesOf lowestFrom faultOf
+unfolding kindOf isData isCompare isMove isHalfMove isNop isMultiply isAnyAccess isLiteralLoad isAccess isBranch isRegisterBranch dataFields operandOf multiplyFields accessFields readingOf literalReading rotated valueOf behind signedStep targetOf literalOf operandNames names baseOf branchRegister writesSp keepsFlags takesSp isCall isUnlisted dataMaskValue branchMaskValue immediateIs isMask isDataMask isBranchMask isTest canBeGuarded maskGuards testGuards branchGuards closes sandboxEnd codeLimit layoutHolds lengthHolds rule4 rule5 rule6 wantsGuard rule7 rule8 rule9 literalHolds rule10 wordAtAddress landingOf inTrampolines landable rule11 rulesOf lowestFrom faultOf
 points = search

@@ -1,5 +1,5 @@
 -- "Region, layout, ledger": what the layout and the code length must be.
-use Prim.Native.Nat.{ℕ, _+_, _*_, _%_, _^_}
+use Prim.Native.Nat.{ℕ, _+_, _*_, _%_}
 use mathlib.Core.Bool.{Bool, _&&_}
 use lib.Dec.{eqb, leb}
 use Rattle.rules.specs.declared.layout.Layout.{Layout}

@@ -1,10 +1,9 @@
 -- `awl_check` meets its contract: it is the check's answer, packed.
 use borrow.Author.Needs.{needs}
 use mathlib.Core.Path.{_∙_, ap, subst}
-use mathlib.Core.List.{List}
 use Rattle.rules.specs.declared.layout.Layout.{Layout}
 use Rattle.checker.specs.Check.{Checked}
-use Rattle.awlthimble.specs.Answer.{packed, layoutOf, CheckAnswered}
+use Rattle.awlthimble.specs.Answer.{packed, layoutOf}
 use Rattle.awlthimble.proofs.awl_check.Statement.{statement}
 use Rattle.awlthimble.proofs.awl_check.Tie as tie
 

@@ -3,7 +3,7 @@ use borrow.Author.Needs.{needs}
 use mathlib.Core.Path.{_∙_, ap, subst}
 use Rattle.rules.specs.declared.layout.Layout.{Layout}
 use Rattle.checker.specs.Patch.{Patched}
-use Rattle.awlthimble.specs.Answer.{packed, layoutOf, PatchAnswered}
+use Rattle.awlthimble.specs.Answer.{packed, layoutOf}
 use Rattle.awlthimble.proofs.awl_patch.Statement.{statement}
 use Rattle.awlthimble.proofs.awl_patch.Tie as tie
 

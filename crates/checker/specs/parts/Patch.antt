@@ -1,14 +1,13 @@
 -- What the parts of the patch call ask and promise.
-use Prim.Native.Nat.{ℕ, _+_, _/_}
+use Prim.Native.Nat.{ℕ, _/_}
 use mathlib.Core.Path.{_≡_}
 use mathlib.Core.Bool.{Bool, true, false, _&&_}
 use mathlib.Core.List.{List}
-use lib.ListN.{length, getD}
+use lib.ListN.{getD}
 use Rattle.rules.specs.declared.layout.Layout.{Layout}
 use Rattle.rules.specs.declared.outcome.Outcome.{Outcome}
 use Rattle.rules.specs.Outcome.{verdictOf}
 use Rattle.checker.specs.Lists.{firstFrom}
-use Rattle.checker.specs.parts.Stands.{Stands}
 use Rattle.checker.specs.Check.{wordsOf, ledgerAfter}
 use Rattle.checker.specs.parts.Ledger.{Swapped}
 use Rattle.checker.specs.Patch.{oldCounted, countLess, newFit, strandedAt, bundlesVerdict, movedLedger}

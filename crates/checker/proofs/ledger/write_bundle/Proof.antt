@@ -3,7 +3,7 @@ use Prim.Native.Nat.{ℕ, _+_, _-_, _*_, _/_, _≤_, _<_}
 use native.Mathlib.Nat.{add-zero, add-assoc}
 use native.Mathlib.Omega.{arith}
 use mathlib.Core.Path.{_≡_, _∙_, refl, sym, ap, subst}
-use lib.ListN.{length, getD, set, length-set}
+use lib.ListN.{length, getD, set}
 use mathlib.Core.List.{List}
 use Rattle.pairs.specs.Role.{rolesOf}
 use Rattle.checker.specs.Region.{bundleAt, roleAt}

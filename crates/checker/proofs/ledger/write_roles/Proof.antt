@@ -1,8 +1,8 @@
 -- `ledger::write_roles` meets its contract. The invariant: the roles of the bundles passed are written.
-use Prim.Native.Nat.{ℕ, _+_, _-_, _*_, _/_, _≤_, _<_}
+use Prim.Native.Nat.{ℕ, _+_, _-_, _*_, _/_, _≤_}
 use native.Mathlib.Omega.{arith}
 use mathlib.Core.Path.{_≡_, _∙_, refl, subst}
-use lib.ListN.{length, getD, set, length-set}
+use lib.ListN.{length}
 use Rattle.checker.specs.parts.Ledger.{RolesWritten}
 use Rattle.checker.proofs.Ledgers.{written-none, written-then}
 use Rattle.checker.proofs.ledger.write_roles.Statement.{statement}

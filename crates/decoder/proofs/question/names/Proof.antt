@@ -1,10 +1,9 @@
 -- `question::names` meets its contract: each arm is told its kind, and `others` has the rest.
 use borrow.Author.Needs.{needs}
 use mathlib.Core.Path.{_≡_, _∙_, refl, sym, ap}
-use mathlib.Core.Bool.{Bool, false, not, _&&_, _||_}
-use lib.Dec.{eqb}
+use mathlib.Core.Bool.{false}
 use mathlib.Core.List.{[], _∷_}
-use Rattle.decoder.specs.Question.{operandNames, names}
+use Rattle.decoder.specs.Question.{names}
 use Rattle.decoder.proofs.Others.{others}
 use Rattle.decoder.proofs.question.names.Statement.{statement}
 use Rattle.decoder.proofs.question.names.Tie as tie

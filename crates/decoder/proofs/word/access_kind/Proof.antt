@@ -1,8 +1,7 @@
 -- `word::access_kind` meets its contract: of the words with these bits 27..25 only accesses are in a class.
 use borrow.Author.Needs.{needs}
 use borrow.Author.Tests.{not-true, not-false}
-use mathlib.Core.Path.{_≡_, _∙_, sym, ap}
-use mathlib.Core.Bool.{false}
+use mathlib.Core.Path.{_∙_, sym, ap}
 use lib.Dec.{eqb, leb}
 use Prim.Native.Nat.{ℕ}
 use Rattle.decoder.specs.Word.{accessFields}

@@ -1,8 +1,7 @@
 -- `word::kind` meets its contract: bits 27..25 say which classes are left to ask.
 use borrow.Author.Needs.{needs}
 use borrow.Author.Tests.{eq-eqb, ne-eqb, lt-leb}
-use native.Mathlib.Omega.{arith}
-use mathlib.Core.Path.{_≡_, sym}
+use mathlib.Core.Path.{sym}
 use Rattle.decoder.specs.Bits.{bits}
 use Rattle.decoder.specs.Word.{isBranch}
 use Rattle.decoder.proofs.Classes.{of-data, of-half-move, of-nop, of-multiply, of-access, of-literal-load, of-branch, of-register-branch, condition-15}

@@ -2,10 +2,9 @@
 use borrow.Author.Needs.{needs}
 use borrow.Author.Tests.{eq-eqb, ne-eqb}
 use native.Mathlib.Omega.{arith}
-use Prim.Native.Nat.{ℕ, _<_}
-use mathlib.Core.Path.{_≡_, _∙_, sym, ap}
+use mathlib.Core.Path.{_∙_, sym, ap}
 use Rattle.decoder.specs.Bits.{bits}
-use Rattle.decoder.specs.Word.{operationOf, sOf, rnOf, rdOf, operandOf, dataFields, isHalfMove, isNop, multiplyFields, isRegisterBranch}
+use Rattle.decoder.specs.Word.{operationOf, sOf, rnOf, rdOf, dataFields, isHalfMove, isNop, multiplyFields, isRegisterBranch}
 use Rattle.decoder.specs.declared.reading.Operand.{Operand}
 use Rattle.decoder.specs.declared.reading.Kind.the-variants.{Data}
 use Rattle.decoder.proofs.Classes.{of-data, of-half-move, of-nop, of-multiply, of-access, of-literal-load, of-branch, of-register-branch}

@@ -10,12 +10,6 @@ use Rattle.gate.proofs.Texts.{puts-counts}
 use borrow.Author.Needs.{needs}
 use Rattle.gate.proofs.line.line.Statement.{statement}
 use Rattle.gate.proofs.line.line.Tie as tie
-use Rattle.gate.proofs.line.line.Reads as reads
-use Rattle.gate.proofs.line.line.Lts as lts
-use Rattle.checker.proofs.check.check.Reads as check-reads
-use Rattle.gate.proofs.line.layout.Reads as layout-reads
-use Rattle.gate.proofs.line.put_accepted.Reads as put-accepted-reads
-use Rattle.gate.proofs.line.put_refused.Reads as put-refused-reads
 
 layout-requires : tie.Need-layout-requires
 layout-requires c κs = search needs

@@ -5,10 +5,6 @@ use Rattle.gate.proofs.Texts.{puts-then}
 use borrow.Author.Needs.{needs}
 use Rattle.gate.proofs.line.put_accepted.Statement.{statement}
 use Rattle.gate.proofs.line.put_accepted.Tie as tie
-use Rattle.gate.proofs.line.put_accepted.Reads as reads
-use Rattle.gate.proofs.line.put_accepted.Lts as lts
-use Rattle.gate.proofs.text.put.Reads as put-reads
-use Rattle.gate.proofs.text.put_number.Reads as put-number-reads
 
 slice-aggregate-put : tie.Need-slice-aggregate-put
 slice-aggregate-put c = search needs

@@ -1,7 +1,7 @@
 -- `line::put_refused` meets its contract.
 use Prim.Native.Nat.{ℕ}
 use native.Mathlib.Omega.{arith}
-use mathlib.Core.Path.{_≡_, _∙_, sym, ap, ap₂, subst}
+use mathlib.Core.Path.{_∙_, sym, ap, ap₂, subst}
 use mathlib.Core.List.{List, _++_}
 use Rattle.rules.specs.Outcome.{reasonVerdict}
 use Rattle.rules.proofs.Reasons.{reason-refuses}
@@ -12,13 +12,6 @@ use borrow.Author.Needs.{needs}
 use borrow.Author.Tests.{not-true, not-false}
 use Rattle.gate.proofs.line.put_refused.Statement.{statement}
 use Rattle.gate.proofs.line.put_refused.Tie as tie
-use Rattle.gate.proofs.line.put_refused.Reads as reads
-use Rattle.gate.proofs.line.put_refused.Lts as lts
-use Rattle.rules.proofs.outcome.address.Reads as address-reads
-use Rattle.rules.proofs.outcome.carries_address.Reads as carries-address-reads
-use Rattle.rules.proofs.outcome.number.Reads as number-reads
-use Rattle.gate.proofs.text.put.Reads as put-reads
-use Rattle.gate.proofs.text.put_number.Reads as put-number-reads
 
 slice-aggregate-put : tie.Need-slice-aggregate-put
 slice-aggregate-put c = search needs

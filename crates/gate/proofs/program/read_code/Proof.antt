@@ -6,9 +6,6 @@ use lib.ListN.{length}
 use Rattle.gate.proofs.Texts.{counts}
 use Rattle.gate.proofs.program.read_code.Statement.{statement}
 use Rattle.gate.proofs.program.read_code.Tie as tie
-use Rattle.gate.proofs.program.read_code.Reads as reads
-use Rattle.gate.proofs.program.read_code.Lts as lts
-use Rattle.gate.proofs.program.read_more.Reads as read-more-reads
 
 abbrev Inv-loop : tie.InvT-loop
 Inv-loop code₀ n₀ code n = (n ≤ length code₀) × (length code ≡ length code₀)

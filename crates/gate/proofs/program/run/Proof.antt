@@ -1,18 +1,10 @@
 -- `program::run` keeps within its buffers: the ledger has room for the words of the code.
-use Prim.Native.Nat.{ℕ, _/_}
+use Prim.Native.Nat.{_/_}
 use native.Mathlib.Omega.{arith}
 use Rattle.gate.proofs.Texts.{counts}
 use borrow.Author.Needs.{needs}
 use Rattle.gate.proofs.program.run.Statement.{statement}
 use Rattle.gate.proofs.program.run.Tie as tie
-use Rattle.gate.proofs.program.run.Reads as reads
-use Rattle.gate.proofs.program.run.Lts as lts
-use Rattle.io.proofs.write_all.Reads as write-all-reads
-use Rattle.os.proofs.fail.Reads as fail-reads
-use Rattle.gate.proofs.line.line.Reads as line-reads
-use Rattle.gate.proofs.program.bytes.Reads as bytes-reads
-use Rattle.gate.proofs.program.entries.Reads as entries-reads
-use Rattle.gate.proofs.program.read_code.Reads as read-code-reads
 
 bytes-requires : tie.Need-bytes-requires
 bytes-requires c κs = search needs

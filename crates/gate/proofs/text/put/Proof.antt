@@ -1,10 +1,10 @@
 -- `text::put` meets its contract. The invariant: the bytes passed are pasted.
-use Prim.Native.Nat.{ℕ, suc, _+_, _-_, _≤_, _<_}
+use Prim.Native.Nat.{ℕ, suc, _+_, _-_, _≤_}
 use native.Mathlib.Omega.{arith}
-use mathlib.Core.Path.{_≡_, _∙_, refl, sym, ap}
+use mathlib.Core.Path.{_≡_, _∙_, refl, ap}
 use mathlib.Core.List.{List}
 use lib.ListN.{length, getD, set, length-set}
-use lib.Seq.{paste, paste-zero, paste-suc, length-paste}
+use lib.Seq.{paste, paste-zero, paste-suc}
 use Rattle.gate.proofs.Texts.{paste-whole}
 use Rattle.gate.proofs.text.put.Statement.{statement}
 use Rattle.gate.proofs.text.put.Tie as tie

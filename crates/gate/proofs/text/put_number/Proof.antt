@@ -1,18 +1,14 @@
 -- `text::put_number` meets its contract: the numeral is what `io::decimal` wrote.
-use Prim.Native.Nat.{ℕ, _+_, _≤_}
+use Prim.Native.Nat.{ℕ}
 use native.Mathlib.Omega.{arith}
 use mathlib.Core.Path.{_≡_, _∙_, sym, subst}
 use mathlib.Core.List.{List}
-use lib.ListN.{length, take}
+use lib.ListN.{take}
 use Rattle.gate.specs.Text.{numeral, Puts}
 use Rattle.gate.proofs.Texts.{few-digits, numeral-is}
 use borrow.Author.Needs.{needs}
 use Rattle.gate.proofs.text.put_number.Statement.{statement}
 use Rattle.gate.proofs.text.put_number.Tie as tie
-use Rattle.gate.proofs.text.put_number.Reads as reads
-use Rattle.gate.proofs.text.put_number.Lts as lts
-use Rattle.io.proofs.decimal.Reads as decimal-reads
-use Rattle.gate.proofs.text.put.Reads as put-reads
 
 -- src/text.rt:26:9
 decimal-requires : tie.Need-decimal-requires

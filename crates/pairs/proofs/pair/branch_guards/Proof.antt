@@ -1,11 +1,9 @@
 -- `pair::branch_guards` meets its contract: where the second word is no register branch, the rest is not asked.
 use borrow.Author.Needs.{needs}
-use mathlib.Core.Path.{_≡_, _∙_, sym, ap}
+use mathlib.Core.Path.{_∙_, sym, ap}
 use borrow.Author.Tests.{not-true, not-false}
 use Prim.Native.Nat.{ℕ}
-use mathlib.Core.Bool.{true, false}
 use lib.Dec.{ltb}
-use Rattle.decoder.specs.Question.{branchRegister}
 use Rattle.pairs.specs.Pair.{branchGuards}
 use Rattle.pairs.proofs.pair.branch_guards.Statement.{statement}
 use Rattle.pairs.proofs.pair.branch_guards.Tie as tie

@@ -1,8 +1,7 @@
 -- `pair::closes` meets its contract: where the first word does not write r13, the rest is not asked.
 use borrow.Author.Needs.{needs}
-use mathlib.Core.Path.{_≡_, _∙_, sym, ap}
+use mathlib.Core.Path.{_∙_, sym}
 use borrow.Author.Tests.{not-true, not-false}
-use Rattle.decoder.specs.Question.{writesSp}
 use Rattle.pairs.specs.Pair.{closes}
 use Rattle.pairs.proofs.pair.closes.Statement.{statement}
 use Rattle.pairs.proofs.pair.closes.Tie as tie

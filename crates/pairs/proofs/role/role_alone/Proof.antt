@@ -1,7 +1,6 @@
 -- `role::role_alone` meets its contract: each arm is told its kind, and `others` has the rest.
 use borrow.Author.Needs.{needs}
 use mathlib.Core.Path.{_≡_, refl, sym, ap}
-use Prim.Native.Nat.{ℕ}
 use mathlib.Core.List.{[], _∷_}
 use Rattle.pairs.specs.Role.{plain, roleAlone}
 use Rattle.decoder.proofs.Others.{others}

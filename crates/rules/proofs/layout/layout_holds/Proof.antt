@@ -4,7 +4,7 @@ use borrow.Author.Tests.{lt-leb}
 use native.Mathlib.Omega.{arith}
 use Prim.Native.Nat.{ℕ, _+_, _<_}
 use mathlib.Core.Bool.{_&&_}
-use mathlib.Core.Path.{_≡_, _∙_, sym, refl}
+use mathlib.Core.Path.{sym, refl}
 use Rattle.rules.proofs.Tests.{and-false}
 use Rattle.rules.specs.Layout.{sandboxEnd, inBundles, inOrder, layoutHolds}
 use Rattle.rules.proofs.layout.layout_holds.Statement.{statement}

@@ -1,7 +1,7 @@
 -- `rule::rule10` meets its contract: each arm is told its place.
 use borrow.Author.Needs.{needs}
 use mathlib.Core.Path.{_∙_, sym, ap}
-use mathlib.Core.Bool.{Bool, not}
+use mathlib.Core.Bool.{not}
 use Rattle.decoder.specs.declared.place.Place.{Place}
 use Rattle.rules.specs.Rule.{rule10}
 use Rattle.rules.proofs.rule.rule10.Statement.{statement}

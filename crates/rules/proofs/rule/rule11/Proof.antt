@@ -1,6 +1,6 @@
 -- `rule::rule11` meets its contract: each arm is told its place.
 use borrow.Author.Needs.{needs}
-use mathlib.Core.Path.{_∙_, sym, ap}
+use mathlib.Core.Path.{sym, ap}
 use Rattle.decoder.specs.declared.place.Place.{Place}
 use Rattle.rules.specs.Rule.{rule11}
 use Rattle.rules.proofs.rule.rule11.Statement.{statement}

@@ -1,9 +1,7 @@
 -- `rule::rule7` meets its contract: the guards are asked only of an access that wants one.
 use borrow.Author.Needs.{needs}
-use mathlib.Core.Path.{_≡_, _∙_, sym, ap}
+use mathlib.Core.Path.{_∙_, sym, ap}
 use borrow.Author.Tests.{not-true, not-false}
-use mathlib.Core.Bool.{true, false}
-use Rattle.decoder.specs.Question.{baseOf}
 use Rattle.rules.specs.Rule.{wantsGuard, rule7}
 use Rattle.rules.proofs.rule.rule7.Statement.{statement}
 use Rattle.rules.proofs.rule.rule7.Tie as tie

@@ -3,7 +3,6 @@ use borrow.Author.Needs.{needs}
 use borrow.Author.Tests.{le-leb, lt-leb, lt-ltb, le-ltb}
 use native.Mathlib.Omega.{arith}
 use Prim.Native.Nat.{ℕ, _+_, _-_, _*_, _/_, _≤_, _<_}
-use mathlib.Core.Path.{_≡_}
 use Rattle.rules.specs.Rule.{wordAtAddress}
 use Rattle.rules.proofs.rule.word_at_address.Statement.{statement}
 use Rattle.rules.proofs.rule.word_at_address.Tie as tie
