@@ -5,7 +5,7 @@ use mathlib.Core.Path.{_≡_, sym}
 use mathlib.Core.Bool.{false}
 use lib.ListN.{length, getD}
 use borrow.Author.Needs.{needs}
-use borrow.Author.Count.{below-none, below-more}
+use borrow.Author.Count.{below-more}
 use Rattle.rules.proofs.Lowest.{none-in, none-lowest, first-lowest}
 use Rattle.rules.proofs.rule.lowest.Statement.{statement}
 use Rattle.rules.proofs.rule.lowest.Tie as tie
@@ -15,6 +15,9 @@ Inv-loop broken i₀ i = (i ≤ 8) × ((j : ℕ) → j < i → getD broken j fal
 
 abbrev μ-loop : tie.MeasureT-loop
 μ-loop broken i₀ i = 8 - i
+
+loop-holds : tie.Need-loop-holds Inv-loop μ-loop
+loop-holds c = (omega arith, λ j h. absurd (omega arith))
 
 returns : tie.Need-returns Inv-loop μ-loop
 returns c =
@@ -36,7 +39,7 @@ lowest-spec =
     (tie.spec
     Inv-loop
     μ-loop
-    (λ c. (omega arith, below-none _))
+    loop-holds
     (λ c. omega arith)
     (λ c. omega arith)
     (λ c. omega arith)
