@@ -7,18 +7,6 @@ use Rattle.awlthimble.specs.Answer.{packed, layoutOf}
 use Rattle.awlthimble.proofs.awl_check.Statement.{statement}
 use Rattle.awlthimble.proofs.awl_check.Tie as tie
 
-layout-requires : tie.Need-layout-requires
-layout-requires c κs = search needs
-
-check-requires : tie.Need-check-requires
-check-requires c κs = search needs
-
-answer-requires : tie.Need-answer-requires
-answer-requires c κs = search needs
-
-same-length : tie.Need-same-length
-same-length c = search needs
-
 returns : tie.Need-returns
 returns c =
     let a = c .before .before .before .before .before .before .before .before .args in
@@ -29,4 +17,4 @@ returns c =
 
 pub awl-check-spec : {M : Type 1} → statement M
 awl-check-spec =
-    tie.close (tie.spec layout-requires check-requires answer-requires same-length returns)
+    tie.close (tie.spec (λ c κs. search needs) (λ c κs. search needs) (λ c κs. search needs) (λ c. search needs) returns)

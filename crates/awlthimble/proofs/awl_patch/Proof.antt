@@ -7,21 +7,6 @@ use Rattle.awlthimble.specs.Answer.{packed, layoutOf}
 use Rattle.awlthimble.proofs.awl_patch.Statement.{statement}
 use Rattle.awlthimble.proofs.awl_patch.Tie as tie
 
-layout-requires : tie.Need-layout-requires
-layout-requires c κs = search needs
-
-patch-requires : tie.Need-patch-requires
-patch-requires c κs = search needs
-
-answer-requires : tie.Need-answer-requires
-answer-requires c κs = search needs
-
-same-length : tie.Need-same-length
-same-length c = search needs
-
-same-length-2 : tie.Need-same-length-2
-same-length-2 c = search needs
-
 returns : tie.Need-returns
 returns c =
     let a = c .before .before .before .before .before .before .before .before .before .before .before .before .args in
@@ -32,4 +17,4 @@ returns c =
 
 pub awl-patch-spec : {M : Type 1} → statement M
 awl-patch-spec =
-    tie.close (tie.spec layout-requires patch-requires answer-requires same-length same-length-2 returns)
+    tie.close (tie.spec (λ c κs. search needs) (λ c κs. search needs) (λ c κs. search needs) (λ c. search needs) (λ c. search needs) returns)

@@ -30,16 +30,10 @@ kept c = record { layout = e1 (c .before .before .before); length′ = e2 (c .be
 address-fits : (c : tie.Then4) → entry (c .before .before .before) .args .layout .«code_start» + 4 * c .before .first-fault .result .at < 1_073_741_824
 address-fits c = found-address (kept (c .before .before .before)) (c .before .first-fault .ensures) (c .if4 .taken)
 
-layout-holds-requires : tie.Need-layout-holds-requires
-layout-holds-requires c κs = search needs
-
 returns : tie.Need-returns
 returns c =
     let a = c .before .before .before .before .args in
     checked-1 (a .layout) (a .code .now) (a .ledger .now) (sym (c .before .layout-holds .ensures) ∙ not-true (c .before .layout-holds .result) (c .if1 .taken))
-
-length-holds-requires : tie.Need-length-holds-requires
-length-holds-requires c κs = search needs
 
 returns-2 : tie.Need-returns-2
 returns-2 c =
@@ -66,18 +60,12 @@ add-at c = let fits = address-fits (c .before .before) in omega arith
 reason-requires : tie.Need-reason-requires
 reason-requires c κs = found-range (kept (c .before .before .before .before .before)) (c .before .before .before .first-fault .ensures) (c .before .before .if4 .taken)
 
-same-length : tie.Need-same-length
-same-length c = search needs
-
 returns-4 : tie.Need-returns-4
 returns-4 c =
     checked-word (kept (c .before .before .before .before .before .before)) (c .before .before .before .before .first-fault .ensures) (c .before .before .before .if4 .taken) (c .reason .result) (c .reason .ensures)
 
 write-ledger-requires : tie.Need-write-ledger-requires
 write-ledger-requires c κs = let k = kept (c .before .before .before .before) in (stands k, k .words)
-
-same-length-2 : tie.Need-same-length-2
-same-length-2 c = search needs
 
 returns-5 : tie.Need-returns-5
 returns-5 c =
@@ -89,9 +77,9 @@ pub check-spec : {M : Type 1} → statement M
 check-spec =
     tie.close
     (tie.spec
-    layout-holds-requires
+    (λ c κs. search needs)
     returns
-    length-holds-requires
+    (λ c κs. search needs)
     returns-2
     returns-3
     first-fault-requires
@@ -99,8 +87,8 @@ check-spec =
     cast-at
     add-at
     reason-requires
-    same-length
+    (λ c. search needs)
     returns-4
     write-ledger-requires
-    same-length-2
+    (λ c. search needs)
     returns-5)

@@ -4,12 +4,6 @@ use Rattle.checker.proofs.Checks.{within-roles, ledger-written}
 use Rattle.checker.proofs.check.write_ledger.Statement.{statement}
 use Rattle.checker.proofs.check.write_ledger.Tie as tie
 
-clear-requires : tie.Need-clear-requires
-clear-requires c κs = search needs
-
-write-roles-requires : tie.Need-write-roles-requires
-write-roles-requires c κs = search needs
-
 move-landings-requires : tie.Need-move-landings-requires
 move-landings-requires c κs =
     let start = c .before .before .before .before .before .before .before .before .before .before .before in
@@ -19,9 +13,6 @@ move-landings-requires c κs =
       within-roles (start .args .layout) (start .args .code .now) _ _ _ (start .pre .1) (clear .kept .0) (roles .kept .1 .0) (clear .ensures) (roles .ensures),
       search needs,
     )
-
-same-length : tie.Need-same-length
-same-length c = search needs
 
 returns : tie.Need-returns
 returns c =
@@ -35,4 +26,4 @@ returns c =
 pub write-ledger-spec : {M : Type 1} → statement M
 write-ledger-spec =
     tie.close
-    (tie.spec clear-requires write-roles-requires move-landings-requires same-length returns)
+    (tie.spec (λ c κs. search needs) (λ c κs. search needs) move-landings-requires (λ c. search needs) returns)

@@ -24,26 +24,11 @@ module _ (ledger bytes : List ℕ) (first j : ℕ) where
   unfolding roleFrom
   above h k = sym (simp (le-leb first j h, le-ltb j (first + length bytes / 4) (omega arith)))
 
-mul-result : tie.Need-mul-result
-mul-result c = search needs
-
-shared-slice-read-result : tie.Need-shared-slice-read-result
-shared-slice-read-result c = search needs
-
 returns : tie.Need-returns
 returns c = let a = c .before .before .before .before .args in below (a .ledger .now) (a .bytes .now) (a .first) (a .j) (c .before .if1 .taken)
 
-role-at-requires : tie.Need-role-at-requires
-role-at-requires c κs = search needs
-
 returns-2 : tie.Need-returns-2
 returns-2 c = let a = c .before .before .before .before .before .args in c .role-at .ensures ∙ inside (a .ledger .now) (a .bytes .now) (a .first) (a .j) (c .before .before .if1 .left) (c .before .if2 .taken)
-
-mul-result-2 : tie.Need-mul-result-2
-mul-result-2 c = search needs
-
-shared-slice-read-result-2 : tie.Need-shared-slice-read-result-2
-shared-slice-read-result-2 c = search needs
 
 returns-3 : tie.Need-returns-3
 returns-3 c = let a = c .before .before .before .before .before .args in above (a .ledger .now) (a .bytes .now) (a .first) (a .j) (c .before .before .if1 .left) (c .before .if2 .left)
@@ -52,11 +37,11 @@ pub role-from-spec : {M : Type 1} → statement M
 role-from-spec =
     tie.close
     (tie.spec
-    mul-result
-    shared-slice-read-result
+    (λ c. search needs)
+    (λ c. search needs)
     returns
-    role-at-requires
+    (λ c κs. search needs)
     returns-2
-    mul-result-2
-    shared-slice-read-result-2
+    (λ c. search needs)
+    (λ c. search needs)
     returns-3)

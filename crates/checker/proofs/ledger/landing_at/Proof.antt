@@ -10,27 +10,6 @@ use Rattle.checker.specs.Standing.{targetAt, landingAt}
 use Rattle.checker.proofs.ledger.landing_at.Statement.{statement}
 use Rattle.checker.proofs.ledger.landing_at.Tie as tie
 
-add-address : tie.Need-add-address
-add-address c = search needs
-
-mul-address : tie.Need-mul-address
-mul-address c = search needs
-
-cast-address : tie.Need-cast-address
-cast-address c = search needs
-
-add-address-2 : tie.Need-add-address-2
-add-address-2 c = search needs
-
-reading-at-requires : tie.Need-reading-at-requires
-reading-at-requires c κs = search needs
-
-direct-target-requires : tie.Need-direct-target-requires
-direct-target-requires c κs = search needs
-
-landing-requires : tie.Need-landing-requires
-landing-requires c κs = search needs
-
 returns : tie.Need-returns
 unfolding landingAt targetAt
 returns c =
@@ -43,11 +22,11 @@ pub landing-at-spec : {M : Type 1} → statement M
 landing-at-spec =
     tie.close
     (tie.spec
-    add-address
-    mul-address
-    cast-address
-    add-address-2
-    reading-at-requires
-    direct-target-requires
-    landing-requires
+    (λ c. search needs)
+    (λ c. search needs)
+    (λ c. search needs)
+    (λ c. search needs)
+    (λ c κs. search needs)
+    (λ c κs. search needs)
+    (λ c κs. search needs)
     returns)

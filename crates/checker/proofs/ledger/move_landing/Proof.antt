@@ -16,12 +16,6 @@ bound-is c = ⊎-elim (λ w. w .1 ∙ sym (rw (w .0 .taken))) (λ w. w .1 ∙ sy
 returns : tie.Need-returns
 returns c = one-nowhere _ _ _ (c .before .pre .1) (c .if1 .taken)
 
-mul-entry : tie.Need-mul-entry
-mul-entry c = search needs
-
-slice-read-entry : tie.Need-slice-read-entry
-slice-read-entry c = search needs
-
 cast-if3 : tie.Need-cast-if3
 cast-if3 c = omega (arith, c .before .slice-known .given (c .before .before .before .args .j))
 
@@ -36,15 +30,6 @@ add-ledger c =
 sub-ledger : tie.Need-sub-ledger
 sub-ledger c = omega (arith, rw (c .if4 .left) at (bound-is (c .before .before)))
 
-mul-ledger : tie.Need-mul-ledger
-mul-ledger c = search needs
-
-slice-write-ledger : tie.Need-slice-write-ledger
-slice-write-ledger c = search needs
-
-same-length : tie.Need-same-length
-same-length c = search needs
-
 returns-3 : tie.Need-returns-3
 returns-3 c =
     one-moved _ _ _ (c .before .before .before .before .before .pre .1) (c .before .before .before .before .if1 .left) _ (bound-is (c .before .before)) (c .before .if3 .left) _
@@ -55,13 +40,13 @@ move-landing-spec =
     tie.close
     (tie.spec
     returns
-    mul-entry
-    slice-read-entry
+    (λ c. search needs)
+    (λ c. search needs)
     cast-if3
     returns-2
     add-ledger
     sub-ledger
-    mul-ledger
-    slice-write-ledger
-    same-length
+    (λ c. search needs)
+    (λ c. search needs)
+    (λ c. search needs)
     returns-3)

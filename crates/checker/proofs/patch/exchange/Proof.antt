@@ -17,26 +17,14 @@ within-off c =
     let off = c .before .before .before .move-all in
     within-mid (a .layout) (a .old .now) (a .new .now) (a .first) _ _ (off .kept .1 .0) (off .result) (off .ensures) (start .pre .1) (not-false (off .result) (c .if1 .left))
 
-move-all-requires : tie.Need-move-all-requires
-move-all-requires c κs = search needs
-
-same-length : tie.Need-same-length
-same-length c = search needs
-
 returns : tie.Need-returns
 returns c =
     let a = c .before .before .before .before .before .before .before .before .args in
     let off = c .before .before .before .move-all in
     uncounted (a .layout) (a .old .now) (a .new .now) (a .first) _ _ (off .kept .1 .0) (off .result) (off .ensures) (not-true (off .result) (c .if1 .taken))
 
-first-stranded-requires : tie.Need-first-stranded-requires
-first-stranded-requires c κs = search needs
-
 move-all-requires-2 : tie.Need-move-all-requires-2
 move-all-requires-2 c κs = (search needs, within-off (c .before .before .before))
-
-same-length-2 : tie.Need-same-length-2
-same-length-2 c = search needs
 
 returns-2 : tie.Need-returns-2
 returns-2 c =
@@ -53,9 +41,6 @@ move-all-requires-3 : tie.Need-move-all-requires-3
 move-all-requires-3 c κs =
     let on = c .before .before .before .before .move-all2 in
     (search needs, subst (λ (l : List ℕ). Within l) (sym (on .ensures .no′ (c .before .if2 .left))) (within-off (c .before .before .before .before .before .before .before .before)))
-
-same-length-3 : tie.Need-same-length-3
-same-length-3 c = search needs
 
 returns-3 : tie.Need-returns-3
 returns-3 c =
@@ -74,13 +59,13 @@ pub exchange-spec : {M : Type 1} → statement M
 exchange-spec =
     tie.close
     (tie.spec
-    move-all-requires
-    same-length
+    (λ c κs. search needs)
+    (λ c. search needs)
     returns
-    first-stranded-requires
+    (λ c κs. search needs)
     move-all-requires-2
-    same-length-2
+    (λ c. search needs)
     returns-2
     move-all-requires-3
-    same-length-3
+    (λ c. search needs)
     returns-3)

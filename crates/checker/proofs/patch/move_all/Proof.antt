@@ -7,9 +7,6 @@ use Rattle.checker.proofs.Moving.{within-then, moved-whole, part-back}
 use Rattle.checker.proofs.patch.move_all.Statement.{statement}
 use Rattle.checker.proofs.patch.move_all.Tie as tie
 
-move-landings-requires : tie.Need-move-landings-requires
-move-landings-requires c κs = search needs
-
 move-landings-requires-2 : tie.Need-move-landings-requires-2
 move-landings-requires-2 c κs =
     let start = c .before .before .before .before .before .before .before .before in
@@ -20,9 +17,6 @@ move-landings-requires-2 c κs =
       search needs,
     )
 
-same-length : tie.Need-same-length
-same-length c = search needs
-
 returns : tie.Need-returns
 returns c =
     let start = c .before .before .before .before .before .before .before .before .before .before .before in
@@ -30,9 +24,6 @@ returns c =
     let move = c .before .before .before .before .before .before .before .move-landings in
     let back = c .before .before .move-landings2 in
     part-back (a .on) (a .layout) (a .bytes .now) (a .first) _ _ _ _ _ _ (move .kept .1 .0) (back .kept .1 .0) (start .pre .1) (c .before .before .before .before .if1 .taken) (move .ensures) (back .ensures)
-
-same-length-2 : tie.Need-same-length-2
-same-length-2 c = search needs
 
 returns-2 : tie.Need-returns-2
 returns-2 c =
@@ -44,9 +35,9 @@ pub move-all-spec : {M : Type 1} → statement M
 move-all-spec =
     tie.close
     (tie.spec
-    move-landings-requires
+    (λ c κs. search needs)
     move-landings-requires-2
-    same-length
+    (λ c. search needs)
     returns
-    same-length-2
+    (λ c. search needs)
     returns-2)

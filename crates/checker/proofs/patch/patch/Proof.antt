@@ -22,32 +22,17 @@ e2 c = sym (c .before .length-holds .ensures) ∙ not-false (c .before .length-h
 e12 : (c : tie.Else3) → shapeHolds (length (c .before .before .before .before .before .before .before .before .before .before .args .ledger .now)) (c .before .before .before .before .before .before .before .before .before .before .args .offset) (c .before .before .before .before .before .before .before .before .before .before .args .old .now) (c .before .before .before .before .before .before .before .before .before .before .args .new .now) ≡ true
 e12 c = sym (c .before .shape-holds .ensures) ∙ not-false (c .before .shape-holds .result) (c .if3 .left)
 
-mul-length : tie.Need-mul-length
-mul-length c = search needs
-
-layout-holds-requires : tie.Need-layout-holds-requires
-layout-holds-requires c κs = search needs
-
 returns : tie.Need-returns
 returns c =
     let a = c .before .before .before .before .before .args in
     let holds = c .before .layout-holds in
     patched-1 (a .layout) (a .ledger .now) (a .offset) (a .old .now) (a .new .now) (sym (holds .ensures) ∙ not-true (holds .result) (c .if1 .taken))
 
-length-holds-requires : tie.Need-length-holds-requires
-length-holds-requires c κs = search needs
-
 returns-2 : tie.Need-returns-2
 returns-2 c =
     let a = c .before .before .before .before .before .before .before .args in
     let holds = c .before .length-holds in
     patched-2 (a .layout) (a .ledger .now) (a .offset) (a .old .now) (a .new .now) (e1 (c .before .before)) (sym (holds .ensures) ∙ not-true (holds .result) (c .if2 .taken))
-
-shape-holds-requires : tie.Need-shape-holds-requires
-shape-holds-requires c κs = search needs
-
-same-length : tie.Need-same-length
-same-length c = search needs
 
 returns-3 : tie.Need-returns-3
 returns-3 c =
@@ -60,12 +45,6 @@ patch-words-requires c κs =
     let a = c .before .before .before .before .before .before .before .before .before .before .before .before .args in
     both-stand (a .layout) (a .ledger .now) (a .offset) (a .old .now) (a .new .now) (e1 (c .before .before .before .before .before .before .before)) (e2 (c .before .before .before .before .before)) (e12 (c .before .before))
 
-same-length-2 : tie.Need-same-length-2
-same-length-2 c = search needs
-
-same-length-3 : tie.Need-same-length-3
-same-length-3 c = search needs
-
 returns-4 : tie.Need-returns-4
 returns-4 c =
     let a = c .before .before .before .before .before .before .before .before .before .before .before .before .before .before .before .before .before .args in
@@ -76,15 +55,15 @@ pub patch-spec : {M : Type 1} → statement M
 patch-spec =
     tie.close
     (tie.spec
-    mul-length
-    layout-holds-requires
+    (λ c. search needs)
+    (λ c κs. search needs)
     returns
-    length-holds-requires
+    (λ c κs. search needs)
     returns-2
-    shape-holds-requires
-    same-length
+    (λ c κs. search needs)
+    (λ c. search needs)
     returns-3
     patch-words-requires
-    same-length-2
-    same-length-3
+    (λ c. search needs)
+    (λ c. search needs)
     returns-4)

@@ -53,26 +53,11 @@ fault-addressed c =
 strand-addressed : (c : tie.After-address-arg2) → (entry (c .before .before .before .before .before .before .before .before) .args .layout .«code_start» + 4 * length (c .before .before .before .exchange3 .last .1 .0) ≤ 1_073_741_824) × (entry (c .before .before .before .before .before .before .before .before) .args .first + c .before .before .before .before .before .before .before .before .before .before .before .before .exchange .result .strand < length (c .before .before .before .exchange3 .last .1 .0))
 strand-addressed c = addressed (agreed (c .before .before .before .before .before .before .before .before)) _ (c .before .before .before .exchange3 .kept .1 .0) _ (c .before .before .before .before .before .before .if5 .taken)
 
-counts-hold-requires : tie.Need-counts-hold-requires
-counts-hold-requires c κs = search needs
-
-same-length : tie.Need-same-length
-same-length c = search needs
-
 returns : tie.Need-returns
 returns c =
     let a = c .before .before .before .before .before .before .args in
     let counts = c .before .counts-hold in
     disagreed (a .layout) (a .ledger .now) (a .first) (a .old .now) (a .new .now) (counts-disagree (a .layout) (a .ledger .now) (a .first) (a .old .now) (a .new .now) (sym (counts .ensures) ∙ not-true (counts .result) (c .if1 .taken)))
-
-roles-agree-requires : tie.Need-roles-agree-requires
-roles-agree-requires c κs = search needs
-
-same-length-2 : tie.Need-same-length-2
-same-length-2 c = search needs
-
-same-length-3 : tie.Need-same-length-3
-same-length-3 c = search needs
 
 returns-2 : tie.Need-returns-2
 returns-2 c =
@@ -80,17 +65,8 @@ returns-2 c =
     let roles = c .before .roles-agree in
     disagreed (a .layout) (a .ledger .now) (a .first) (a .old .now) (a .new .now) (roles-disagree (a .layout) (a .ledger .now) (a .first) (a .old .now) (a .new .now) (e-counts (c .before .before .before .before)) (sym (roles .ensures) ∙ not-true (roles .result) (c .if2 .taken)))
 
-first-fault-requires : tie.Need-first-fault-requires
-first-fault-requires c κs = search needs
-
 exchange-requires : tie.Need-exchange-requires
 exchange-requires c κs = (c .before .before .before .before .before .before .before .before .before .before .before .before .before .before .pre, counts-within (c .before .before .before .before .before .before .before .before .before .before .before .before .before .before .args .ledger .now) (e-counts (c .before .before .before .before .before .before .before .before)))
-
-same-length-4 : tie.Need-same-length-4
-same-length-4 c = search needs
-
-same-length-5 : tie.Need-same-length-5
-same-length-5 c = search needs
 
 returns-3 : tie.Need-returns-3
 returns-3 c =
@@ -112,12 +88,6 @@ address-requires c κs = fault-addressed c
 reason-requires : tie.Need-reason-requires
 reason-requires c κs = fault-range (agreed (c .before .before .before .before .before .before .before .before .before)) (c .before .before .before .before .before .before .before .before .before .before .before .before .before .before .before .before .first-fault .ensures) (c .before .before .before .before .before .before .before .before .if4 .taken)
 
-same-length-6 : tie.Need-same-length-6
-same-length-6 c = search needs
-
-same-length-7 : tie.Need-same-length-7
-same-length-7 c = search needs
-
 returns-4 : tie.Need-returns-4
 returns-4 c =
     let g = agreed (c .before .before .before .before .before .before .before .before .before .before) in
@@ -135,29 +105,11 @@ add-address-2 c = let r = strand-addressed c in omega arith
 address-requires-2 : tie.Need-address-requires-2
 address-requires-2 c κs = strand-addressed c
 
-same-length-8 : tie.Need-same-length-8
-same-length-8 c = search needs
-
-same-length-9 : tie.Need-same-length-9
-same-length-9 c = search needs
-
 returns-5 : tie.Need-returns-5
 returns-5 c =
     let g = agreed (c .before .before .before .before .before .before .before .before .before) in
     let back = c .before .before .before .before .exchange3 in
     stranded g (c .before .before .before .before .before .before .before .before .before .before .before .before .before .before .before .before .first-fault .ensures) (c .before .before .before .before .before .before .before .before .if4 .left) (c .before .before .before .before .before .before .before .if5 .taken) (c .address2 .result) (c .address2 .ensures) _ (undone g _ _ _ (back .kept .1 .0) (back .ensures))
-
-write-roles-requires : tie.Need-write-roles-requires
-write-roles-requires c κs = search needs
-
-copy-requires : tie.Need-copy-requires
-copy-requires c κs = search needs
-
-same-length-10 : tie.Need-same-length-10
-same-length-10 c = search needs
-
-same-length-11 : tie.Need-same-length-11
-same-length-11 c = search needs
 
 returns-6 : tie.Need-returns-6
 returns-6 c =
@@ -169,33 +121,33 @@ pub patch-words-spec : {M : Type 1} → statement M
 patch-words-spec =
     tie.close
     (tie.spec
-    counts-hold-requires
-    same-length
+    (λ c κs. search needs)
+    (λ c. search needs)
     returns
-    roles-agree-requires
-    same-length-2
-    same-length-3
+    (λ c κs. search needs)
+    (λ c. search needs)
+    (λ c. search needs)
     returns-2
-    first-fault-requires
+    (λ c κs. search needs)
     exchange-requires
-    same-length-4
-    same-length-5
+    (λ c. search needs)
+    (λ c. search needs)
     returns-3
     exchange-requires-2
     add-address
     address-requires
     reason-requires
-    same-length-6
-    same-length-7
+    (λ c. search needs)
+    (λ c. search needs)
     returns-4
     exchange-requires-3
     add-address-2
     address-requires-2
-    same-length-8
-    same-length-9
+    (λ c. search needs)
+    (λ c. search needs)
     returns-5
-    write-roles-requires
-    copy-requires
-    same-length-10
-    same-length-11
+    (λ c κs. search needs)
+    (λ c κs. search needs)
+    (λ c. search needs)
+    (λ c. search needs)
     returns-6)

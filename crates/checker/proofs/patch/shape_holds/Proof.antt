@@ -30,9 +30,6 @@ difference x y z h =
     (λ e. let less = leb-true x (z - y) e in e ∙ sym (le-leb (x + y) z (omega arith)))
     (λ e. let more = leb-false x (z - y) e in e ∙ sym (lt-leb (x + y) z (omega arith)))
 
-mul-length : tie.Need-mul-length
-mul-length c = search needs
-
 returns : tie.Need-returns
 returns c = sym (too-long (c .before .args .words) (c .before .args .offset) (c .before .args .old .now) (c .before .args .new .now) (c .if1 .taken))
 
@@ -43,4 +40,4 @@ returns-2 c =
     ap (λ (b : Bool). not (eqb (length (a .new .now)) 0) && eqb (length (a .new .now) % 16) 0 && eqb (length (a .new .now)) (length (a .old .now)) && eqb (a .offset % 16) 0 && b) (difference (a .offset) (length (a .new .now)) (4 * a .words) (c .if1 .left))
 
 pub shape-holds-spec : {M : Type 1} → statement M
-shape-holds-spec = tie.close (tie.spec mul-length returns returns-2)
+shape-holds-spec = tie.close (tie.spec (λ c. search needs) returns returns-2)

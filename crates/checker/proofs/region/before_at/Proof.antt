@@ -9,18 +9,9 @@ use Rattle.checker.proofs.Words.{before-at}
 use Rattle.checker.proofs.region.before_at.Statement.{statement}
 use Rattle.checker.proofs.region.before_at.Tie as tie
 
-blank-requires : tie.Need-blank-requires
-blank-requires c κs = search needs
-
 returns : tie.Need-returns
 unfolding beforeAt
 returns c = simp (eq-eqb (c .before .before .before .args .k % 4) 0 (omega arith)) (c .blank .ensures)
-
-sub-reading-at : tie.Need-sub-reading-at
-sub-reading-at c = search needs
-
-reading-at-requires : tie.Need-reading-at-requires
-reading-at-requires c κs = search needs
 
 returns-2 : tie.Need-returns-2
 returns-2 c =
@@ -28,4 +19,4 @@ returns-2 c =
     c .reading-at .ensures ∙ before-at (a .bytes .now) (a .k) (λ z. omega arith)
 
 pub before-at-spec : {M : Type 1} → statement M
-before-at-spec = tie.close (tie.spec blank-requires returns sub-reading-at reading-at-requires returns-2)
+before-at-spec = tie.close (tie.spec (λ c κs. search needs) returns (λ c. search needs) (λ c κs. search needs) returns-2)

@@ -7,18 +7,6 @@ use Rattle.checker.proofs.Words.{reading-at}
 use Rattle.checker.proofs.region.reading_at.Statement.{statement}
 use Rattle.checker.proofs.region.reading_at.Tie as tie
 
-sub-word : tie.Need-sub-word
-sub-word c = search needs
-
-word-requires : tie.Need-word-requires
-word-requires c κs = search needs
-
-word-requires-2 : tie.Need-word-requires-2
-word-requires-2 c κs = search needs
-
-reading-requires : tie.Need-reading-requires
-reading-requires c κs = search needs
-
 returns : tie.Need-returns
 returns c =
     let a = c .before .before .before .before .args in
@@ -28,4 +16,4 @@ returns c =
 
 pub reading-at-spec : {M : Type 1} → statement M
 reading-at-spec =
-    tie.close (tie.spec sub-word word-requires word-requires-2 reading-requires returns)
+    tie.close (tie.spec (λ c. search needs) (λ c κs. search needs) (λ c κs. search needs) (λ c κs. search needs) returns)

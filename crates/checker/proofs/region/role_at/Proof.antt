@@ -6,15 +6,6 @@ use Rattle.checker.proofs.Words.{role-at}
 use Rattle.checker.proofs.region.role_at.Statement.{statement}
 use Rattle.checker.proofs.region.role_at.Tie as tie
 
-before-at-requires : tie.Need-before-at-requires
-before-at-requires c κs = search needs
-
-reading-at-requires : tie.Need-reading-at-requires
-reading-at-requires c κs = search needs
-
-role-after-requires : tie.Need-role-after-requires
-role-after-requires c κs = search needs
-
 returns : tie.Need-returns
 returns c =
     let a = c .before .before .before .before .args in
@@ -22,4 +13,4 @@ returns c =
 
 pub role-at-spec : {M : Type 1} → statement M
 role-at-spec =
-    tie.close (tie.spec before-at-requires reading-at-requires role-after-requires returns)
+    tie.close (tie.spec (λ c κs. search needs) (λ c κs. search needs) (λ c κs. search needs) returns)

@@ -5,22 +5,13 @@ use Rattle.decoder.specs.Bundle.{headWord, slotReading}
 use Rattle.decoder.proofs.bundle.reading.Statement.{statement}
 use Rattle.decoder.proofs.bundle.reading.Tie as tie
 
-read-head-requires : tie.Need-read-head-requires
-read-head-requires c κs = search needs
-
 returns : tie.Need-returns
 unfolding slotReading headWord
 returns c = simp (eq-eqb _ _ (c .before .before .if1 .taken), eq-eqb _ _ (c .before .if2 .taken)) (c .read-head .ensures)
 
-read-literal-requires : tie.Need-read-literal-requires
-read-literal-requires c κs = search needs
-
 returns-2 : tie.Need-returns-2
 unfolding slotReading headWord
 returns-2 c = simp (eq-eqb _ _ (c .before .before .if1 .taken), ne-eqb _ _ (c .before .if2 .left)) (c .read-literal .ensures)
-
-read-requires : tie.Need-read-requires
-read-requires c κs = search needs
 
 returns-3 : tie.Need-returns-3
 unfolding slotReading headWord
@@ -29,4 +20,4 @@ returns-3 c = simp (ne-eqb _ _ (c .before .if1 .left)) (c .read .ensures)
 pub reading-spec : {M : Type 1} → statement M
 reading-spec =
     tie.close
-    (tie.spec read-head-requires returns read-literal-requires returns-2 read-requires returns-3)
+    (tie.spec (λ c κs. search needs) returns (λ c κs. search needs) returns-2 (λ c κs. search needs) returns-3)

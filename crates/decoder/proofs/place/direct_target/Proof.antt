@@ -10,21 +10,9 @@ use Prim.Native.Nat.{_+_}
 use Rattle.decoder.proofs.place.direct_target.Statement.{statement}
 use Rattle.decoder.proofs.place.direct_target.Tie as tie
 
-enum-known-kind : tie.Need-enum-known-kind
-enum-known-kind c = search needs
-
 returns : tie.Need-returns
 unfolding targetOf
 returns c = other-branch (λ call offset. signedStep (c .before .args .address + 8) (bits offset 23 0)) Absent (c .before .args .reading .kind) (c .match .keys2)
-
-add-signed-step : tie.Need-add-signed-step
-add-signed-step c = search needs
-
-cast-signed-step : tie.Need-cast-signed-step
-cast-signed-step c = search needs
-
-signed-step-requires : tie.Need-signed-step-requires
-signed-step-requires c κs = search needs
 
 returns-2 : tie.Need-returns-2
 unfolding targetOf
@@ -34,9 +22,9 @@ pub direct-target-spec : {M : Type 1} → statement M
 direct-target-spec =
     tie.close
     (tie.spec
-    enum-known-kind
+    (λ c. search needs)
     returns
-    add-signed-step
-    cast-signed-step
-    signed-step-requires
+    (λ c. search needs)
+    (λ c. search needs)
+    (λ c κs. search needs)
     returns-2)

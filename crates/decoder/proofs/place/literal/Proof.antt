@@ -12,21 +12,9 @@ use Rattle.decoder.proofs.Others.{other-literal-load}
 use Rattle.decoder.proofs.place.literal.Statement.{statement}
 use Rattle.decoder.proofs.place.literal.Tie as tie
 
-enum-known-kind : tie.Need-enum-known-kind
-enum-known-kind c = search needs
-
 returns : tie.Need-returns
 unfolding literalOf
 returns c = other-literal-load (λ u rt distance. cond (eqb u 1) (At (c .before .args .address + 8 + distance)) (behind (c .before .args .address + 8) distance)) Absent (c .before .args .reading .kind) (c .match .keys2)
-
-add-from : tie.Need-add-from
-add-from c = search needs
-
-cast-t9 : tie.Need-cast-t9
-cast-t9 c = search needs
-
-add-t10 : tie.Need-add-t10
-add-t10 c = search needs
 
 returns-2 : tie.Need-returns-2
 unfolding literalOf
@@ -34,12 +22,6 @@ returns-2 c =
     let at = c .before .before in
     let a = at .before .before .args in
     sym (ap (λ (k : Kind). literalOf k (a .address)) (at .kind .given .1) ∙ simp (eq-eqb _ _ (c .if1 .taken)))
-
-cast-back-from : tie.Need-cast-back-from
-cast-back-from c = search needs
-
-back-from-requires : tie.Need-back-from-requires
-back-from-requires c κs = search needs
 
 returns-3 : tie.Need-returns-3
 unfolding literalOf
@@ -53,12 +35,12 @@ pub literal-spec : {M : Type 1} → statement M
 literal-spec =
     tie.close
     (tie.spec
-    enum-known-kind
+    (λ c. search needs)
     returns
-    add-from
-    cast-t9
-    add-t10
+    (λ c. search needs)
+    (λ c. search needs)
+    (λ c. search needs)
     returns-2
-    cast-back-from
-    back-from-requires
+    (λ c. search needs)
+    (λ c κs. search needs)
     returns-3)

@@ -6,9 +6,6 @@ use Rattle.decoder.proofs.Others.{other-access}
 use Rattle.decoder.proofs.question.base.Statement.{statement}
 use Rattle.decoder.proofs.question.base.Tie as tie
 
-enum-known-kind : tie.Need-enum-known-kind
-enum-known-kind c = search needs
-
 returns : tie.Need-returns
 unfolding baseOf
 returns c = other-access (λ f. f .rn) 16 (c .before .args .kind) (c .match .keys2)
@@ -18,4 +15,4 @@ unfolding baseOf
 returns-2 c = sym (ap baseOf (c .before .kind .given .1))
 
 pub base-spec : {M : Type 1} → statement M
-base-spec = tie.close (tie.spec enum-known-kind returns returns-2)
+base-spec = tie.close (tie.spec (λ c. search needs) returns returns-2)

@@ -6,9 +6,6 @@ use Rattle.decoder.proofs.Others.{other-register-branch}
 use Rattle.decoder.proofs.question.branch_register.Statement.{statement}
 use Rattle.decoder.proofs.question.branch_register.Tie as tie
 
-enum-known-kind : tie.Need-enum-known-kind
-enum-known-kind c = search needs
-
 returns : tie.Need-returns
 unfolding branchRegister
 returns c = other-register-branch (λ call rm. rm) 16 (c .before .args .kind) (c .match .keys2)
@@ -18,4 +15,4 @@ unfolding branchRegister
 returns-2 c = sym (ap branchRegister (c .before .kind .given .1))
 
 pub branch-register-spec : {M : Type 1} → statement M
-branch-register-spec = tie.close (tie.spec enum-known-kind returns returns-2)
+branch-register-spec = tie.close (tie.spec (λ c. search needs) returns returns-2)

@@ -8,12 +8,6 @@ use Rattle.decoder.proofs.Others.{others}
 use Rattle.decoder.proofs.question.is_call.Statement.{statement}
 use Rattle.decoder.proofs.question.is_call.Tie as tie
 
-enum-known-kind : tie.Need-enum-known-kind
-enum-known-kind c = search needs
-
-enum-known-kind-2 : tie.Need-enum-known-kind-2
-enum-known-kind-2 c = search needs
-
 returns : tie.Need-returns
 unfolding isCall
 returns c = sym (ap isCall (c .before .kind .given .1))
@@ -27,4 +21,4 @@ unfolding isCall
 returns-3 c = others (0 ∷ 1 ∷ 2 ∷ 3 ∷ 4 ∷ 5 ∷ 6 ∷ 9 ∷ 10 ∷ []) (λ k. false ≡ isCall k) refl (λ _. refl) (λ _ _ _. refl) refl (λ _. refl) (λ _. refl) (λ _ _ _. refl) tt tt refl (λ _. refl) (c .before .args .kind) (c .match .keys3)
 
 pub is-call-spec : {M : Type 1} → statement M
-is-call-spec = tie.close (tie.spec enum-known-kind enum-known-kind-2 returns returns-2 returns-3)
+is-call-spec = tie.close (tie.spec (λ c. search needs) (λ c. search needs) returns returns-2 returns-3)

@@ -8,9 +8,6 @@ use Rattle.decoder.proofs.Others.{others}
 use Rattle.decoder.proofs.question.is_unlisted.Statement.{statement}
 use Rattle.decoder.proofs.question.is_unlisted.Tie as tie
 
-enum-told : tie.Need-enum-told
-enum-told c = search needs
-
 returns : tie.Need-returns
 unfolding isUnlisted
 returns c = sym (ap isUnlisted (c .enum-told .given .1))
@@ -20,4 +17,4 @@ unfolding isUnlisted
 returns-2 c = others (1 ∷ 2 ∷ 3 ∷ 4 ∷ 5 ∷ 6 ∷ 7 ∷ 8 ∷ 9 ∷ 10 ∷ []) (λ k. false ≡ isUnlisted k) tt (λ _. refl) (λ _ _ _. refl) refl (λ _. refl) (λ _. refl) (λ _ _ _. refl) (λ _ _. refl) (λ _ _. refl) refl (λ _. refl) (c .before .args .kind) (c .match .keys2)
 
 pub is-unlisted-spec : {M : Type 1} → statement M
-is-unlisted-spec = tie.close (tie.spec enum-told returns returns-2)
+is-unlisted-spec = tie.close (tie.spec (λ c. search needs) returns returns-2)

@@ -8,9 +8,6 @@ use lib.Dec.{eqb}
 use Rattle.decoder.proofs.question.keeps_flags.Statement.{statement}
 use Rattle.decoder.proofs.question.keeps_flags.Tie as tie
 
-enum-known-kind : tie.Need-enum-known-kind
-enum-known-kind c = search needs
-
 returns : tie.Need-returns
 unfolding keepsFlags
 returns c = other-data (λ f. eqb (f .s) 0) false (c .before .args .kind) (c .match .keys2)
@@ -20,4 +17,4 @@ unfolding keepsFlags
 returns-2 c = sym (ap keepsFlags (c .before .before .kind .given .1))
 
 pub keeps-flags-spec : {M : Type 1} → statement M
-keeps-flags-spec = tie.close (tie.spec enum-known-kind returns returns-2)
+keeps-flags-spec = tie.close (tie.spec (λ c. search needs) returns returns-2)

@@ -8,36 +8,6 @@ use Rattle.decoder.proofs.Others.{others}
 use Rattle.decoder.proofs.question.names.Statement.{statement}
 use Rattle.decoder.proofs.question.names.Tie as tie
 
-enum-known-kind : tie.Need-enum-known-kind
-enum-known-kind c = search needs
-
-is-compare-requires : tie.Need-is-compare-requires
-is-compare-requires c κs = search needs
-
-is-move-requires : tie.Need-is-move-requires
-is-move-requires c κs = search needs
-
-operand-names-requires : tie.Need-operand-names-requires
-operand-names-requires c κs = search needs
-
-enum-known-kind-2 : tie.Need-enum-known-kind-2
-enum-known-kind-2 c = search needs
-
-enum-known-kind-3 : tie.Need-enum-known-kind-3
-enum-known-kind-3 c = search needs
-
-multiply-names-requires : tie.Need-multiply-names-requires
-multiply-names-requires c κs = search needs
-
-enum-known-kind-4 : tie.Need-enum-known-kind-4
-enum-known-kind-4 c = search needs
-
-enum-known-kind-5 : tie.Need-enum-known-kind-5
-enum-known-kind-5 c = search needs
-
-enum-known-kind-6 : tie.Need-enum-known-kind-6
-enum-known-kind-6 c = search needs
-
 returns : tie.Need-returns
 unfolding names
 returns c =
@@ -73,16 +43,16 @@ pub names-spec : {M : Type 1} → statement M
 names-spec =
     tie.close
     (tie.spec
-    enum-known-kind
-    is-compare-requires
-    is-move-requires
-    operand-names-requires
-    enum-known-kind-2
-    enum-known-kind-3
-    multiply-names-requires
-    enum-known-kind-4
-    enum-known-kind-5
-    enum-known-kind-6
+    (λ c. search needs)
+    (λ c κs. search needs)
+    (λ c κs. search needs)
+    (λ c κs. search needs)
+    (λ c. search needs)
+    (λ c. search needs)
+    (λ c κs. search needs)
+    (λ c. search needs)
+    (λ c. search needs)
+    (λ c. search needs)
     returns
     returns-2
     returns-3

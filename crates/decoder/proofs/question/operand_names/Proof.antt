@@ -5,15 +5,6 @@ use Rattle.decoder.specs.Question.{operandNames}
 use Rattle.decoder.proofs.question.operand_names.Statement.{statement}
 use Rattle.decoder.proofs.question.operand_names.Tie as tie
 
-enum-told : tie.Need-enum-told
-enum-told c = search needs
-
-enum-known-operand : tie.Need-enum-known-operand
-enum-known-operand c = search needs
-
-enum-known-operand-2 : tie.Need-enum-known-operand-2
-enum-known-operand-2 c = search needs
-
 returns : tie.Need-returns
 unfolding operandNames
 returns c = sym (ap (operandNames (c .before .before .args .r)) (c .enum-told .given .1))
@@ -29,4 +20,4 @@ returns-3 c = sym (ap (operandNames (c .before .before .before .args .r)) (c .be
 pub operand-names-spec : {M : Type 1} → statement M
 operand-names-spec =
     tie.close
-    (tie.spec enum-told enum-known-operand enum-known-operand-2 returns returns-2 returns-3)
+    (tie.spec (λ c. search needs) (λ c. search needs) (λ c. search needs) returns returns-2 returns-3)

@@ -8,24 +8,6 @@ use Rattle.decoder.proofs.Others.{others}
 use Rattle.decoder.proofs.question.takes_sp.Statement.{statement}
 use Rattle.decoder.proofs.question.takes_sp.Tie as tie
 
-enum-known-kind : tie.Need-enum-known-kind
-enum-known-kind c = search needs
-
-enum-known-kind-2 : tie.Need-enum-known-kind-2
-enum-known-kind-2 c = search needs
-
-multiply-names-requires : tie.Need-multiply-names-requires
-multiply-names-requires c κs = search needs
-
-enum-known-kind-3 : tie.Need-enum-known-kind-3
-enum-known-kind-3 c = search needs
-
-enum-known-kind-4 : tie.Need-enum-known-kind-4
-enum-known-kind-4 c = search needs
-
-enum-known-kind-5 : tie.Need-enum-known-kind-5
-enum-known-kind-5 c = search needs
-
 returns : tie.Need-returns
 unfolding takesSp
 returns c = sym (ap takesSp (c .before .kind .given .1))
@@ -54,12 +36,12 @@ pub takes-sp-spec : {M : Type 1} → statement M
 takes-sp-spec =
     tie.close
     (tie.spec
-    enum-known-kind
-    enum-known-kind-2
-    multiply-names-requires
-    enum-known-kind-3
-    enum-known-kind-4
-    enum-known-kind-5
+    (λ c. search needs)
+    (λ c. search needs)
+    (λ c κs. search needs)
+    (λ c. search needs)
+    (λ c. search needs)
+    (λ c. search needs)
     returns
     returns-2
     returns-3

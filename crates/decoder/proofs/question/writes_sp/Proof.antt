@@ -8,15 +8,9 @@ use lib.Dec.{eqb}
 use Rattle.decoder.proofs.question.writes_sp.Statement.{statement}
 use Rattle.decoder.proofs.question.writes_sp.Tie as tie
 
-enum-known-kind : tie.Need-enum-known-kind
-enum-known-kind c = search needs
-
 returns : tie.Need-returns
 unfolding writesSp
 returns c = other-data spWritten false (c .before .args .kind) (c .match .keys2)
-
-is-compare-requires : tie.Need-is-compare-requires
-is-compare-requires c κs = search needs
 
 returns-2 : tie.Need-returns-2
 unfolding writesSp
@@ -25,4 +19,4 @@ returns-2 c =
     ap (λ (b : Bool). not b && eqb (k .given .0 .0 .rd) 13) (c .before .is-compare .ensures) ∙ sym (ap writesSp (k .given .1))
 
 pub writes-sp-spec : {M : Type 1} → statement M
-writes-sp-spec = tie.close (tie.spec enum-known-kind returns is-compare-requires returns-2)
+writes-sp-spec = tie.close (tie.spec (λ c. search needs) returns (λ c κs. search needs) returns-2)

@@ -10,9 +10,6 @@ use Rattle.decoder.proofs.Taken.{kind-taken, kind-untaken, out-of-group
 use Rattle.decoder.proofs.word.access_kind.Statement.{statement}
 use Rattle.decoder.proofs.word.access_kind.Tie as tie
 
-is-any-access-requires : tie.Need-is-any-access-requires
-is-any-access-requires c κs = search needs
-
 returns : tie.Need-returns
 returns c =
     let start = c .before .before in
@@ -32,9 +29,6 @@ returns c =
       register-branch = out-of-group of-register-branch w low;
     })
 
-is-literal-load-requires : tie.Need-is-literal-load-requires
-is-literal-load-requires c κs = search needs
-
 returns-2 : tie.Need-returns-2
 returns-2 c =
     let start = c .before .before .before .before in
@@ -49,4 +43,4 @@ returns-3 c =
     sym (kind-taken of-access (start .args .word) (start .pre .0) is)
 
 pub access-kind-spec : {M : Type 1} → statement M
-access-kind-spec = tie.close (tie.spec is-any-access-requires returns is-literal-load-requires returns-2 returns-3)
+access-kind-spec = tie.close (tie.spec (λ c κs. search needs) returns (λ c κs. search needs) returns-2 returns-3)

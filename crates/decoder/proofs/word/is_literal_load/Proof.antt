@@ -8,9 +8,6 @@ use Rattle.decoder.specs.Word.{isLiteralLoad, rnOf}
 use Rattle.decoder.proofs.word.is_literal_load.Statement.{statement}
 use Rattle.decoder.proofs.word.is_literal_load.Tie as tie
 
-is-any-access-requires : tie.Need-is-any-access-requires
-is-any-access-requires c κs = search needs
-
 returns : tie.Need-returns
 unfolding isLiteralLoad
 returns c =
@@ -19,4 +16,4 @@ returns c =
     (c .is-any-access .ensures)
 
 pub is-literal-load-spec : {M : Type 1} → statement M
-is-literal-load-spec = tie.close (tie.spec is-any-access-requires returns)
+is-literal-load-spec = tie.close (tie.spec (λ c κs. search needs) returns)

@@ -19,14 +19,8 @@ returns-2 c = sym (kind-taken of-branch (c .before .before .args .word) (ne-eqb 
 access-kind-requires : tie.Need-access-kind-requires
 access-kind-requires c κs = (ne-eqb _ _ (c .before .before .if1 .left), c .if3 .taken)
 
-returns-3 : tie.Need-returns-3
-returns-3 c = search needs
-
 low-kind-requires : tie.Need-low-kind-requires
 low-kind-requires c κs = (ne-eqb _ _ (c .before .before .before .if1 .left), c .if4 .taken)
-
-returns-4 : tie.Need-returns-4
-returns-4 c = search needs
 
 returns-5 : tie.Need-returns-5
 returns-5 c =
@@ -53,7 +47,7 @@ kind-spec =
     returns
     returns-2
     access-kind-requires
-    returns-3
+    (λ c. search needs)
     low-kind-requires
-    returns-4
+    (λ c. search needs)
     returns-5)

@@ -16,12 +16,6 @@ returns : tie.Need-returns
 unfolding isNop
 returns c = sym (kind-taken of-nop (c .before .args .word) (c .before .pre .0) (eq-eqb _ _ (c .if1 .taken)))
 
-is-data-requires : tie.Need-is-data-requires
-is-data-requires c κs = search needs
-
-operand-requires : tie.Need-operand-requires
-operand-requires c κs = search needs
-
 returns-2 : tie.Need-returns-2
 unfolding dataFields
 returns-2 c =
@@ -30,20 +24,11 @@ returns-2 c =
     ap (λ (o : Operand). Data (record { operation = operationOf w; s = sOf w; rn = rnOf w; rd = rdOf w; operand = o })) (c .operand .ensures)
     ∙ sym (kind-taken of-data w (start .pre .0) (sym (c .before .before .is-data .ensures) ∙ c .before .if2 .taken))
 
-is-multiply-requires : tie.Need-is-multiply-requires
-is-multiply-requires c κs = search needs
-
 returns-3 : tie.Need-returns-3
 unfolding multiplyFields
 returns-3 c =
     let start = c .before .before .before .before .before in
     sym (kind-taken of-multiply (start .args .word) (start .pre .0) (sym (c .before .is-multiply .ensures) ∙ c .if3 .taken))
-
-mul-t25 : tie.Need-mul-t25
-mul-t25 c = search needs
-
-add-t28 : tie.Need-add-t28
-add-t28 c = search needs
 
 returns-4 : tie.Need-returns-4
 unfolding isHalfMove
@@ -85,13 +70,13 @@ low-kind-spec =
     tie.close
     (tie.spec
     returns
-    is-data-requires
-    operand-requires
+    (λ c κs. search needs)
+    (λ c κs. search needs)
     returns-2
-    is-multiply-requires
+    (λ c κs. search needs)
     returns-3
-    mul-t25
-    add-t28
+    (λ c. search needs)
+    (λ c. search needs)
     returns-4
     returns-5
     returns-6)

@@ -4,12 +4,9 @@ use Rattle.decoder.specs.Word.{readingOf, conditionOf}
 use Rattle.decoder.proofs.word.read.Statement.{statement}
 use Rattle.decoder.proofs.word.read.Tie as tie
 
-kind-requires : tie.Need-kind-requires
-kind-requires c κs = search needs
-
 returns : tie.Need-returns
 unfolding readingOf
 returns c = λ i. record { condition = conditionOf (c .before .args .word); kind = c .kind .ensures i }
 
 pub read-spec : {M : Type 1} → statement M
-read-spec = tie.close (tie.spec kind-requires returns)
+read-spec = tie.close (tie.spec (λ c κs. search needs) returns)

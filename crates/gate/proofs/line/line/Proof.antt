@@ -11,27 +11,6 @@ use borrow.Author.Needs.{needs}
 use Rattle.gate.proofs.line.line.Statement.{statement}
 use Rattle.gate.proofs.line.line.Tie as tie
 
-layout-requires : tie.Need-layout-requires
-layout-requires c κs = search needs
-
-check-requires : tie.Need-check-requires
-check-requires c κs = search needs
-
-enum-told : tie.Need-enum-told
-enum-told c = search needs
-
-put-accepted-requires : tie.Need-put-accepted-requires
-put-accepted-requires c κs = search needs
-
-enum-known-reason : tie.Need-enum-known-reason
-enum-known-reason c = search needs
-
-put-refused-requires : tie.Need-put-refused-requires
-put-refused-requires c κs = search needs
-
-same-length : tie.Need-same-length
-same-length c = search needs
-
 returns : tie.Need-returns
 returns c =
     let checks = c .before .before .before .before .before .before .check in
@@ -44,9 +23,6 @@ returns c =
     let same : accepted ≡ v = sym (ap verdictOf (told .enum-told .given .1)) ∙ promised .verdict in
     let puts = subst (λ (v : Verdict). Puts (a .out .now) 0 (lineOf v (length (a .code .now))) (c .put-accepted .last .0) (c .put-accepted .result)) same (c .put-accepted .ensures) in
     (record { entries = promised .ledger; text = puts }, puts-counts (a .out .now) (lineOf v (length (a .code .now))) (c .put-accepted .last .0) (c .put-accepted .result) puts)
-
-same-length-2 : tie.Need-same-length-2
-same-length-2 c = search needs
 
 returns-2 : tie.Need-returns-2
 returns-2 c =
@@ -65,13 +41,13 @@ pub line-spec : {M : Type 1} → statement M
 line-spec =
     tie.close
     (tie.spec
-    layout-requires
-    check-requires
-    enum-told
-    put-accepted-requires
-    enum-known-reason
-    put-refused-requires
-    same-length
+    (λ c κs. search needs)
+    (λ c κs. search needs)
+    (λ c. search needs)
+    (λ c κs. search needs)
+    (λ c. search needs)
+    (λ c κs. search needs)
+    (λ c. search needs)
     returns
-    same-length-2
+    (λ c. search needs)
     returns-2)

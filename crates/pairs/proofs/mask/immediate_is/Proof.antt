@@ -20,14 +20,8 @@ no-immediate v (Immediate rotation byte) h = absurd (miss (1 ∷ 2 ∷ []) 0 tt 
 no-immediate v (Shifted shift amount rm) h = refl
 no-immediate v (ShiftedByRs shift rs rm) h = refl
 
-enum-known-operand : tie.Need-enum-known-operand
-enum-known-operand c = search needs
-
 returns : tie.Need-returns
 returns c = no-immediate (c .before .args .wanted) (c .before .args .operand) (c .match .keys2)
-
-value-requires : tie.Need-value-requires
-value-requires c κs = search needs
 
 returns-2 : tie.Need-returns-2
 unfolding immediateIs
@@ -36,4 +30,4 @@ returns-2 c =
     ap (λ (v : ℕ). eqb v w) (c .value .ensures) ∙ sym (ap (immediateIs w) (c .before .before .operand .given .1))
 
 pub immediate-is-spec : {M : Type 1} → statement M
-immediate-is-spec = tie.close (tie.spec enum-known-operand returns value-requires returns-2)
+immediate-is-spec = tie.close (tie.spec (λ c. search needs) returns (λ c κs. search needs) returns-2)

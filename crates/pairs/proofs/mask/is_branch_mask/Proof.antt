@@ -4,12 +4,9 @@ use Rattle.pairs.specs.Mask.{branchMaskValue, isBranchMask}
 use Rattle.pairs.proofs.mask.is_branch_mask.Statement.{statement}
 use Rattle.pairs.proofs.mask.is_branch_mask.Tie as tie
 
-is-mask-requires : tie.Need-is-mask-requires
-is-mask-requires c κs = search needs
-
 returns : tie.Need-returns
 unfolding isBranchMask branchMaskValue
 returns c = c .is-mask .ensures
 
 pub is-branch-mask-spec : {M : Type 1} → statement M
-is-branch-mask-spec = tie.close (tie.spec is-mask-requires returns)
+is-branch-mask-spec = tie.close (tie.spec (λ c κs. search needs) returns)

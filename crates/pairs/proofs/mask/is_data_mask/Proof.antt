@@ -4,12 +4,9 @@ use Rattle.pairs.specs.Mask.{dataMaskValue, isDataMask}
 use Rattle.pairs.proofs.mask.is_data_mask.Statement.{statement}
 use Rattle.pairs.proofs.mask.is_data_mask.Tie as tie
 
-is-mask-requires : tie.Need-is-mask-requires
-is-mask-requires c κs = search needs
-
 returns : tie.Need-returns
 unfolding isDataMask dataMaskValue
 returns c = c .is-mask .ensures
 
 pub is-data-mask-spec : {M : Type 1} → statement M
-is-data-mask-spec = tie.close (tie.spec is-mask-requires returns)
+is-data-mask-spec = tie.close (tie.spec (λ c κs. search needs) returns)

@@ -8,9 +8,6 @@ use Rattle.decoder.proofs.Others.{other-data}
 use Rattle.pairs.proofs.mask.is_mask.Statement.{statement}
 use Rattle.pairs.proofs.mask.is_mask.Tie as tie
 
-enum-known-kind : tie.Need-enum-known-kind
-enum-known-kind c = search needs
-
 returns : tie.Need-returns
 unfolding isMask
 returns c = other-data (maskFields (c .before .args .wanted) (c .before .args .r)) false (c .before .args .kind) (c .match .keys2)
@@ -24,9 +21,6 @@ returns-2 c =
     sym (ap (isMask (start .args .wanted) (start .args .r)) (at .kind .given .1)
     ∙ ap (λ (b : Bool). b && immediateIs (start .args .wanted) (f .operand)) (not-true (masks (start .args .r) f) (c .if1 .taken)))
 
-immediate-is-requires : tie.Need-immediate-is-requires
-immediate-is-requires c κs = search needs
-
 returns-3 : tie.Need-returns-3
 unfolding isMask
 returns-3 c =
@@ -39,4 +33,4 @@ returns-3 c =
 
 pub is-mask-spec : {M : Type 1} → statement M
 is-mask-spec =
-    tie.close (tie.spec enum-known-kind returns returns-2 immediate-is-requires returns-3)
+    tie.close (tie.spec (λ c. search needs) returns returns-2 (λ c κs. search needs) returns-3)

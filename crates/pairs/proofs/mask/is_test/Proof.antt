@@ -8,9 +8,6 @@ use Rattle.decoder.proofs.Others.{other-data}
 use Rattle.pairs.proofs.mask.is_test.Statement.{statement}
 use Rattle.pairs.proofs.mask.is_test.Tie as tie
 
-enum-known-kind : tie.Need-enum-known-kind
-enum-known-kind c = search needs
-
 returns : tie.Need-returns
 unfolding isTest
 returns c = other-data (testFields (c .before .args .r)) false (c .before .args .kind) (c .match .keys2)
@@ -24,9 +21,6 @@ returns-2 c =
     sym (ap (isTest (start .args .r)) (at .kind .given .1)
     ∙ ap (λ (b : Bool). b && immediateIs dataMaskValue (f .operand)) (not-true (tests (start .args .r) f) (c .if1 .taken)))
 
-immediate-is-requires : tie.Need-immediate-is-requires
-immediate-is-requires c κs = search needs
-
 returns-3 : tie.Need-returns-3
 unfolding isTest dataMaskValue
 returns-3 c =
@@ -39,4 +33,4 @@ returns-3 c =
 
 pub is-test-spec : {M : Type 1} → statement M
 is-test-spec =
-    tie.close (tie.spec enum-known-kind returns returns-2 immediate-is-requires returns-3)
+    tie.close (tie.spec (λ c. search needs) returns returns-2 (λ c κs. search needs) returns-3)

@@ -8,15 +8,9 @@ use Rattle.pairs.specs.Pair.{branchGuards}
 use Rattle.pairs.proofs.pair.branch_guards.Statement.{statement}
 use Rattle.pairs.proofs.pair.branch_guards.Tie as tie
 
-branch-register-requires : tie.Need-branch-register-requires
-branch-register-requires c κs = search needs
-
 returns : tie.Need-returns
 unfolding branchGuards
 returns c = simp (ap (λ (r : ℕ). ltb r 16) (sym (c .before .branch-register .ensures)) ∙ not-true (ltb (c .before .branch-register .result) 16) (c .if1 .taken))
-
-is-branch-mask-requires : tie.Need-is-branch-mask-requires
-is-branch-mask-requires c κs = search needs
 
 returns-2 : tie.Need-returns-2
 unfolding branchGuards
@@ -27,4 +21,4 @@ returns-2 c =
 
 pub branch-guards-spec : {M : Type 1} → statement M
 branch-guards-spec =
-    tie.close (tie.spec branch-register-requires returns is-branch-mask-requires returns-2)
+    tie.close (tie.spec (λ c κs. search needs) returns (λ c κs. search needs) returns-2)

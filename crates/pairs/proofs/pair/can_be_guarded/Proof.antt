@@ -5,12 +5,9 @@ use Rattle.pairs.specs.Pair.{canBeGuarded}
 use Rattle.pairs.proofs.pair.can_be_guarded.Statement.{statement}
 use Rattle.pairs.proofs.pair.can_be_guarded.Tie as tie
 
-base-requires : tie.Need-base-requires
-base-requires c κs = search needs
-
 returns : tie.Need-returns
 unfolding canBeGuarded
 returns c = ap canBeGuarded (c .base .ensures)
 
 pub can-be-guarded-spec : {M : Type 1} → statement M
-can-be-guarded-spec = tie.close (tie.spec base-requires returns)
+can-be-guarded-spec = tie.close (tie.spec (λ c κs. search needs) returns)

@@ -6,21 +6,9 @@ use Rattle.pairs.specs.Pair.{closes}
 use Rattle.pairs.proofs.pair.closes.Statement.{statement}
 use Rattle.pairs.proofs.pair.closes.Tie as tie
 
-writes-sp-requires : tie.Need-writes-sp-requires
-writes-sp-requires c κs = search needs
-
 returns : tie.Need-returns
 unfolding closes
 returns c = simp (sym (c .before .writes-sp .ensures) ∙ not-true (c .before .writes-sp .result) (c .if1 .taken))
-
-is-data-mask-requires : tie.Need-is-data-mask-requires
-is-data-mask-requires c κs = search needs
-
-keeps-flags-requires : tie.Need-keeps-flags-requires
-keeps-flags-requires c κs = search needs
-
-is-data-mask-requires-2 : tie.Need-is-data-mask-requires-2
-is-data-mask-requires-2 c κs = search needs
 
 returns-2 : tie.Need-returns-2
 unfolding closes
@@ -32,9 +20,9 @@ pub closes-spec : {M : Type 1} → statement M
 closes-spec =
     tie.close
     (tie.spec
-    writes-sp-requires
+    (λ c κs. search needs)
     returns
-    is-data-mask-requires
-    keeps-flags-requires
-    is-data-mask-requires-2
+    (λ c κs. search needs)
+    (λ c κs. search needs)
+    (λ c κs. search needs)
     returns-2)

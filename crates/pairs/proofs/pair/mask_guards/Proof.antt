@@ -6,18 +6,9 @@ use Rattle.pairs.specs.Pair.{maskGuards}
 use Rattle.pairs.proofs.pair.mask_guards.Statement.{statement}
 use Rattle.pairs.proofs.pair.mask_guards.Tie as tie
 
-can-be-guarded-requires : tie.Need-can-be-guarded-requires
-can-be-guarded-requires c κs = search needs
-
 returns : tie.Need-returns
 unfolding maskGuards
 returns c = simp (sym (c .before .can-be-guarded .ensures) ∙ not-true (c .before .can-be-guarded .result) (c .if1 .taken))
-
-base-requires : tie.Need-base-requires
-base-requires c κs = search needs
-
-is-data-mask-requires : tie.Need-is-data-mask-requires
-is-data-mask-requires c κs = search needs
 
 returns-2 : tie.Need-returns-2
 unfolding maskGuards
@@ -28,4 +19,4 @@ returns-2 c =
 pub mask-guards-spec : {M : Type 1} → statement M
 mask-guards-spec =
     tie.close
-    (tie.spec can-be-guarded-requires returns base-requires is-data-mask-requires returns-2)
+    (tie.spec (λ c κs. search needs) returns (λ c κs. search needs) (λ c κs. search needs) returns-2)

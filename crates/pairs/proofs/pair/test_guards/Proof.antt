@@ -6,18 +6,9 @@ use Rattle.pairs.specs.Pair.{testGuards}
 use Rattle.pairs.proofs.pair.test_guards.Statement.{statement}
 use Rattle.pairs.proofs.pair.test_guards.Tie as tie
 
-can-be-guarded-requires : tie.Need-can-be-guarded-requires
-can-be-guarded-requires c κs = search needs
-
 returns : tie.Need-returns
 unfolding testGuards
 returns c = simp (sym (c .before .can-be-guarded .ensures) ∙ not-true (c .before .can-be-guarded .result) (c .if1 .taken))
-
-base-requires : tie.Need-base-requires
-base-requires c κs = search needs
-
-is-test-requires : tie.Need-is-test-requires
-is-test-requires c κs = search needs
 
 returns-2 : tie.Need-returns-2
 unfolding testGuards
@@ -28,4 +19,4 @@ returns-2 c =
 pub test-guards-spec : {M : Type 1} → statement M
 test-guards-spec =
     tie.close
-    (tie.spec can-be-guarded-requires returns base-requires is-test-requires returns-2)
+    (tie.spec (λ c κs. search needs) returns (λ c κs. search needs) (λ c κs. search needs) returns-2)

@@ -7,12 +7,6 @@ use Rattle.decoder.proofs.Others.{others}
 use Rattle.pairs.proofs.role.role_alone.Statement.{statement}
 use Rattle.pairs.proofs.role.role_alone.Tie as tie
 
-enum-told : tie.Need-enum-told
-enum-told c = search needs
-
-enum-told-2 : tie.Need-enum-told-2
-enum-told-2 c = search needs
-
 returns : tie.Need-returns
 unfolding roleAlone
 returns c = sym (ap roleAlone (c .enum-told .given .1))
@@ -26,4 +20,4 @@ unfolding roleAlone
 returns-3 c = others (0 ∷ 1 ∷ 2 ∷ 3 ∷ 4 ∷ 5 ∷ 6 ∷ 7 ∷ 8 ∷ []) (λ k. plain ≡ roleAlone k) refl (λ _. refl) (λ _ _ _. refl) refl (λ _. refl) (λ _. refl) (λ _ _ _. refl) (λ _ _. refl) (λ _ _. refl) tt tt (c .before .args .kind) (c .match .keys3)
 
 pub role-alone-spec : {M : Type 1} → statement M
-role-alone-spec = tie.close (tie.spec enum-told enum-told-2 returns returns-2 returns-3)
+role-alone-spec = tie.close (tie.spec (λ c. search needs) (λ c. search needs) returns returns-2 returns-3)

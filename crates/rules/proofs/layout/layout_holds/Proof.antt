@@ -19,15 +19,9 @@ returns c =
     past : (s n : ℕ) → 1_073_741_824 < n → 1_073_741_824 < s + n
     past s n h = omega arith
 
-cast-result : tie.Need-cast-result
-cast-result c = search needs
-
-add-result : tie.Need-add-result
-add-result c = search needs
-
 returns-2 : tie.Need-returns-2
 unfolding layoutHolds sandboxEnd
 returns-2 c = refl
 
 pub layout-holds-spec : {M : Type 1} → statement M
-layout-holds-spec = tie.close (tie.spec returns cast-result add-result returns-2)
+layout-holds-spec = tie.close (tie.spec returns (λ c. search needs) (λ c. search needs) returns-2)

@@ -5,11 +5,8 @@ use Rattle.rules.proofs.Reasons.{carries-exactly}
 use Rattle.rules.proofs.outcome.carries_address.Statement.{statement}
 use Rattle.rules.proofs.outcome.carries_address.Tie as tie
 
-number-requires : tie.Need-number-requires
-number-requires c κs = search needs
-
 returns : tie.Need-returns
 returns c = rw (c .number .ensures) (sym (carries-exactly (c .before .args .reason)))
 
 pub carries-address-spec : {M : Type 1} → statement M
-carries-address-spec = tie.close (tie.spec number-requires returns)
+carries-address-spec = tie.close (tie.spec (λ c κs. search needs) returns)

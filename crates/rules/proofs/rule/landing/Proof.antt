@@ -6,18 +6,6 @@ use Rattle.rules.specs.Rule.{landingOf}
 use Rattle.rules.proofs.rule.landing.Statement.{statement}
 use Rattle.rules.proofs.rule.landing.Tie as tie
 
-enum-told : tie.Need-enum-told
-enum-told c = search needs
-
-enum-told-2 : tie.Need-enum-told-2
-enum-told-2 c = search needs
-
-enum-known-place : tie.Need-enum-known-place
-enum-known-place c = search needs
-
-word-at-address-requires : tie.Need-word-at-address-requires
-word-at-address-requires c κs = search needs
-
 returns : tie.Need-returns
 unfolding landingOf
 returns c = sym (ap (λ (p : Place). landingOf (c .before .before .args .layout) (c .before .before .args .words) p) (c .enum-told .given .1))
@@ -34,10 +22,10 @@ pub landing-spec : {M : Type 1} → statement M
 landing-spec =
     tie.close
     (tie.spec
-    enum-told
-    enum-told-2
-    enum-known-place
-    word-at-address-requires
+    (λ c. search needs)
+    (λ c. search needs)
+    (λ c. search needs)
+    (λ c κs. search needs)
     returns
     returns-2
     returns-3)

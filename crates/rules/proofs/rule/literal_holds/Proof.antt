@@ -19,18 +19,9 @@ within s a n h = ltb-leb _ _ _ _ (inside s a n h) (outside s a n h)
     outside : (s a n : ℕ) → s ≤ a → n ≤ (a - s) / 4 + ((a - s) % 4 + 3) / 4 → s + 4 * n < a + 4
     outside s a n h k = omega arith
 
-cast-start : tie.Need-cast-start
-cast-start c = search needs
-
 returns : tie.Need-returns
 unfolding literalHolds
 returns c = simp (lt-leb _ _ (c .if1 .taken))
-
-add-begun : tie.Need-add-begun
-add-begun c = search needs
-
-add-begun-2 : tie.Need-add-begun-2
-add-begun-2 c = search needs
 
 returns-2 : tie.Need-returns-2
 unfolding literalHolds
@@ -39,4 +30,4 @@ returns-2 c =
     simp (le-leb _ _ (c .if1 .left), within (a .layout .«code_start») (a .a) (a .words) (c .if1 .left))
 
 pub literal-holds-spec : {M : Type 1} → statement M
-literal-holds-spec = tie.close (tie.spec cast-start returns add-begun add-begun-2 returns-2)
+literal-holds-spec = tie.close (tie.spec (λ c. search needs) returns (λ c. search needs) (λ c. search needs) returns-2)

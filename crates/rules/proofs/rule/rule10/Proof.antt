@@ -7,18 +7,6 @@ use Rattle.rules.specs.Rule.{rule10}
 use Rattle.rules.proofs.rule.rule10.Statement.{statement}
 use Rattle.rules.proofs.rule.rule10.Tie as tie
 
-enum-told : tie.Need-enum-told
-enum-told c = search needs
-
-enum-told-2 : tie.Need-enum-told-2
-enum-told-2 c = search needs
-
-enum-known-place : tie.Need-enum-known-place
-enum-known-place c = search needs
-
-literal-holds-requires : tie.Need-literal-holds-requires
-literal-holds-requires c κs = search needs
-
 returns : tie.Need-returns
 unfolding rule10
 returns c = sym (ap (λ (p : Place). rule10 (c .before .before .args .layout) (c .before .before .args .words) p) (c .enum-told .given .1))
@@ -35,10 +23,10 @@ pub rule10-spec : {M : Type 1} → statement M
 rule10-spec =
     tie.close
     (tie.spec
-    enum-told
-    enum-told-2
-    enum-known-place
-    literal-holds-requires
+    (λ c. search needs)
+    (λ c. search needs)
+    (λ c. search needs)
+    (λ c κs. search needs)
     returns
     returns-2
     returns-3)

@@ -6,24 +6,6 @@ use Rattle.rules.specs.Rule.{rule11}
 use Rattle.rules.proofs.rule.rule11.Statement.{statement}
 use Rattle.rules.proofs.rule.rule11.Tie as tie
 
-enum-told : tie.Need-enum-told
-enum-told c = search needs
-
-enum-told-2 : tie.Need-enum-told-2
-enum-told-2 c = search needs
-
-enum-known-place : tie.Need-enum-known-place
-enum-known-place c = search needs
-
-word-at-address-requires : tie.Need-word-at-address-requires
-word-at-address-requires c κs = search needs
-
-landable-requires : tie.Need-landable-requires
-landable-requires c κs = search needs
-
-in-trampolines-requires : tie.Need-in-trampolines-requires
-in-trampolines-requires c κs = search needs
-
 returns : tie.Need-returns
 unfolding rule11
 returns c = sym (ap (λ (p : Place). rule11 (c .before .before .args .layout) (c .before .before .args .words) p (c .before .before .args .role)) (c .enum-told .given .1))
@@ -42,12 +24,12 @@ pub rule11-spec : {M : Type 1} → statement M
 rule11-spec =
     tie.close
     (tie.spec
-    enum-told
-    enum-told-2
-    enum-known-place
-    word-at-address-requires
-    landable-requires
-    in-trampolines-requires
+    (λ c. search needs)
+    (λ c. search needs)
+    (λ c. search needs)
+    (λ c κs. search needs)
+    (λ c κs. search needs)
+    (λ c κs. search needs)
     returns
     returns-2
     returns-3)

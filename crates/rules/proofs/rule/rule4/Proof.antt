@@ -4,12 +4,9 @@ use Rattle.rules.specs.Rule.{rule4}
 use Rattle.rules.proofs.rule.rule4.Statement.{statement}
 use Rattle.rules.proofs.rule.rule4.Tie as tie
 
-is-unlisted-requires : tie.Need-is-unlisted-requires
-is-unlisted-requires c κs = search needs
-
 returns : tie.Need-returns
 unfolding rule4
 returns c = c .is-unlisted .ensures
 
 pub rule4-spec : {M : Type 1} → statement M
-rule4-spec = tie.close (tie.spec is-unlisted-requires returns)
+rule4-spec = tie.close (tie.spec (λ c κs. search needs) returns)

@@ -4,15 +4,9 @@ use Rattle.rules.specs.Rule.{rule5}
 use Rattle.rules.proofs.rule.rule5.Statement.{statement}
 use Rattle.rules.proofs.rule.rule5.Tie as tie
 
-names-requires : tie.Need-names-requires
-names-requires c κs = search needs
-
-names-requires-2 : tie.Need-names-requires-2
-names-requires-2 c κs = search needs
-
 returns : tie.Need-returns
 unfolding rule5
 returns c = simp (c .before .names .ensures, c .names2 .ensures)
 
 pub rule5-spec : {M : Type 1} → statement M
-rule5-spec = tie.close (tie.spec names-requires names-requires-2 returns)
+rule5-spec = tie.close (tie.spec (λ c κs. search needs) (λ c κs. search needs) returns)

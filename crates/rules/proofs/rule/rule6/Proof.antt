@@ -6,25 +6,13 @@ use Rattle.rules.specs.Rule.{rule6}
 use Rattle.rules.proofs.rule.rule6.Statement.{statement}
 use Rattle.rules.proofs.rule.rule6.Tie as tie
 
-takes-sp-requires : tie.Need-takes-sp-requires
-takes-sp-requires c κs = search needs
-
 returns : tie.Need-returns
 unfolding rule6
 returns c = simp (sym (c .before .takes-sp .ensures) ∙ c .if1 .taken)
 
-writes-sp-requires : tie.Need-writes-sp-requires
-writes-sp-requires c κs = search needs
-
 returns-2 : tie.Need-returns-2
 unfolding rule6
 returns-2 c = simp (sym (c .before .before .before .takes-sp .ensures) ∙ c .before .before .if1 .left, sym (c .before .writes-sp .ensures) ∙ not-true (c .before .writes-sp .result) (c .if2 .taken))
-
-is-data-mask-requires : tie.Need-is-data-mask-requires
-is-data-mask-requires c κs = search needs
-
-closes-requires : tie.Need-closes-requires
-closes-requires c κs = search needs
 
 returns-3 : tie.Need-returns-3
 unfolding rule6
@@ -37,10 +25,10 @@ pub rule6-spec : {M : Type 1} → statement M
 rule6-spec =
     tie.close
     (tie.spec
-    takes-sp-requires
+    (λ c κs. search needs)
     returns
-    writes-sp-requires
+    (λ c κs. search needs)
     returns-2
-    is-data-mask-requires
-    closes-requires
+    (λ c κs. search needs)
+    (λ c κs. search needs)
     returns-3)

@@ -6,21 +6,9 @@ use Rattle.rules.specs.Rule.{wantsGuard, rule7}
 use Rattle.rules.proofs.rule.rule7.Statement.{statement}
 use Rattle.rules.proofs.rule.rule7.Tie as tie
 
-base-requires : tie.Need-base-requires
-base-requires c κs = search needs
-
-wants-guard-requires : tie.Need-wants-guard-requires
-wants-guard-requires c κs = search needs
-
 returns : tie.Need-returns
 unfolding rule7
 returns c = simp (ap wantsGuard (sym (c .before .before .base .ensures)) ∙ sym (c .before .wants-guard .ensures) ∙ not-true (c .before .wants-guard .result) (c .if1 .taken))
-
-mask-guards-requires : tie.Need-mask-guards-requires
-mask-guards-requires c κs = search needs
-
-test-guards-requires : tie.Need-test-guards-requires
-test-guards-requires c κs = search needs
 
 returns-2 : tie.Need-returns-2
 unfolding rule7
@@ -32,9 +20,9 @@ pub rule7-spec : {M : Type 1} → statement M
 rule7-spec =
     tie.close
     (tie.spec
-    base-requires
-    wants-guard-requires
+    (λ c κs. search needs)
+    (λ c κs. search needs)
     returns
-    mask-guards-requires
-    test-guards-requires
+    (λ c κs. search needs)
+    (λ c κs. search needs)
     returns-2)

@@ -8,15 +8,9 @@ use Rattle.rules.specs.Rule.{rule8}
 use Rattle.rules.proofs.rule.rule8.Statement.{statement}
 use Rattle.rules.proofs.rule.rule8.Tie as tie
 
-branch-register-requires : tie.Need-branch-register-requires
-branch-register-requires c κs = search needs
-
 returns : tie.Need-returns
 unfolding rule8
 returns c = simp (ap (λ (r : ℕ). ltb r 16) (sym (c .before .branch-register .ensures)) ∙ not-true (ltb (c .before .branch-register .result) 16) (c .if1 .taken))
-
-branch-guards-requires : tie.Need-branch-guards-requires
-branch-guards-requires c κs = search needs
 
 returns-2 : tie.Need-returns-2
 unfolding rule8
@@ -25,4 +19,4 @@ returns-2 c =
     simp (ap (λ (r : ℕ). ltb r 16) (sym (c1 .before .branch-register .ensures)) ∙ not-false (ltb (c1 .before .branch-register .result) 16) (c1 .if1 .left), c .branch-guards .ensures)
 
 pub rule8-spec : {M : Type 1} → statement M
-rule8-spec = tie.close (tie.spec branch-register-requires returns branch-guards-requires returns-2)
+rule8-spec = tie.close (tie.spec (λ c κs. search needs) returns (λ c κs. search needs) returns-2)

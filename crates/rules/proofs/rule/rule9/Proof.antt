@@ -4,12 +4,9 @@ use Rattle.rules.specs.Rule.{rule9}
 use Rattle.rules.proofs.rule.rule9.Statement.{statement}
 use Rattle.rules.proofs.rule.rule9.Tie as tie
 
-is-call-requires : tie.Need-is-call-requires
-is-call-requires c κs = search needs
-
 returns : tie.Need-returns
 unfolding rule9
 returns c = simp (c .is-call .ensures)
 
 pub rule9-spec : {M : Type 1} → statement M
-rule9-spec = tie.close (tie.spec is-call-requires returns)
+rule9-spec = tie.close (tie.spec (λ c κs. search needs) returns)

@@ -13,9 +13,6 @@ inside s a n h k = omega arith
 outside : (s a n : ℕ) → s ≤ a → n ≤ (a - s) / 4 → s + 4 * n ≤ a
 outside s a n h k = omega arith
 
-cast-start : tie.Need-cast-start
-cast-start c = search needs
-
 returns : tie.Need-returns
 unfolding wordAtAddress
 returns c = simp (lt-leb _ _ (c .if1 .taken))
@@ -35,4 +32,4 @@ returns-3 c =
     simp (le-leb _ _ h, le-ltb _ _ (outside (a .layout .«code_start») (a .a) (a .words) h (c .if2 .left)))
 
 pub word-at-address-spec : {M : Type 1} → statement M
-word-at-address-spec = tie.close (tie.spec cast-start returns returns-2 returns-3)
+word-at-address-spec = tie.close (tie.spec (λ c. search needs) returns returns-2 returns-3)
