@@ -80,12 +80,6 @@ returns c =
     stop (standingFault (a .layout) (a .ledger .now) (a .bytes .now) (a .first)) (length (a .bytes .now) / 4) (at .loop .b) (omega arith)
     (found .result .at) (found .result .number) (at .loop .inv .2) (found .ensures) (c .if1 .taken)
 
-add-b : tie.Need-add-b Inv-loop μ-loop
-add-b c = omega arith
-
-loop-less : tie.Need-loop-less Inv-loop μ-loop
-loop-less c = omega arith
-
 loop-again : tie.Need-loop-again Inv-loop μ-loop
 loop-again c =
     let a = c .before .before .before .before .before .before .before .args in
@@ -97,9 +91,6 @@ loop-again c =
           (found .result .at) (found .result .number) (at .loop .inv .2) (found .ensures) (c .if1 .left),
     )
 
-mul-t8 : tie.Need-mul-t8 Inv-loop μ-loop
-mul-t8 c = omega arith
-
 returns-2 : tie.Need-returns-2 Inv-loop μ-loop
 returns-2 c =
     let a = c .before .before .before .before .args in
@@ -109,4 +100,4 @@ returns-2 c =
 
 pub first-fault-spec : {M : Type 1} → statement M
 first-fault-spec =
-    tie.close (tie.spec Inv-loop μ-loop loop-holds bundle-fault-requires returns add-b loop-less loop-again mul-t8 returns-2)
+    tie.close (tie.spec Inv-loop μ-loop loop-holds bundle-fault-requires returns (λ c. omega arith) (λ c. omega arith) loop-again (λ c. omega arith) returns-2)

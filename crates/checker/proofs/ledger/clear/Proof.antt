@@ -16,18 +16,6 @@ abbrev μ-loop : tie.MeasureT-loop
 loop-holds : tie.Need-loop-holds Inv-loop μ-loop
 loop-holds c = (omega arith, refl, λ t h. absurd (omega arith))
 
-mul-ledger : tie.Need-mul-ledger Inv-loop μ-loop
-mul-ledger c = omega arith
-
-slice-write-ledger : tie.Need-slice-write-ledger Inv-loop μ-loop
-slice-write-ledger c = omega arith
-
-add-i : tie.Need-add-i Inv-loop μ-loop
-add-i c = omega arith
-
-loop-less : tie.Need-loop-less Inv-loop μ-loop
-loop-less c = omega arith
-
 loop-again : tie.Need-loop-again Inv-loop μ-loop
 loop-again c =
     let at = c .before .loop in
@@ -46,10 +34,10 @@ clear-spec =
     Inv-loop
     μ-loop
     loop-holds
-    mul-ledger
-    slice-write-ledger
-    add-i
-    loop-less
+    (λ c. omega arith)
+    (λ c. omega arith)
+    (λ c. omega arith)
+    (λ c. omega arith)
     loop-again
     same-length
     returns)

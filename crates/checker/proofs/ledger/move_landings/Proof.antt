@@ -44,12 +44,6 @@ returns c =
     next-refused (a .on) (a .layout) (a .bytes .now) (a .first) _ (at .loop .k) _ _ (at .loop .inv .1) (at .loop .inv .2) (found .result) (found .ensures) (one .result) (one .ensures)
     (not-true (one .result) (c .if1 .taken)) (a .asked) (c .before .before .before .before .before .before .loop-test .taken)
 
-add-k : tie.Need-add-k Inv-loop μ-loop
-add-k c = omega arith
-
-loop-less : tie.Need-loop-less Inv-loop μ-loop
-loop-less c = omega arith
-
 loop-again : tie.Need-loop-again Inv-loop μ-loop
 loop-again c =
     let at = c .before .before .before .before .before .before .before in
@@ -78,8 +72,8 @@ move-landings-spec =
     move-landing-requires
     same-length
     returns
-    add-k
-    loop-less
+    (λ c. omega arith)
+    (λ c. omega arith)
     loop-again
     same-length-2
     returns-2)

@@ -22,9 +22,6 @@ abbrev μ-loop : tie.MeasureT-loop
 bundle-requires : tie.Need-bundle-requires Inv-loop μ-loop
 bundle-requires c κs = c .before .before .pre .0
 
-roles-requires : tie.Need-roles-requires Inv-loop μ-loop
-roles-requires c κs = tt
-
 loop-holds : tie.Need-loop-holds Inv-loop μ-loop
 loop-holds c =
     let a = c .before .before .before .before .args in (
@@ -34,32 +31,11 @@ loop-holds c =
       subst (λ (x : ℕ). RolesWritten (a .bytes .now) (a .first) (4 * a .b) x (a .ledger .now) (a .ledger .now)) (sym (add-zero (4 * a .b))) (written-none (a .bytes .now) (a .first) (4 * a .b) (a .ledger .now)),
     )
 
-mul-role : tie.Need-mul-role Inv-loop μ-loop
-mul-role c = omega arith
-
-array-read-role : tie.Need-array-read-role Inv-loop μ-loop
-array-read-role c = omega arith
-
-mul-write-role : tie.Need-mul-write-role Inv-loop μ-loop
-mul-write-role c = omega arith
-
-add-write-role : tie.Need-add-write-role Inv-loop μ-loop
-add-write-role c = omega arith
-
-add-write-role-2 : tie.Need-add-write-role-2 Inv-loop μ-loop
-add-write-role-2 c = omega arith
-
 write-role-requires : tie.Need-write-role-requires Inv-loop μ-loop
 write-role-requires c κs =
     let at = c .before .before in
     let a = c .before .before .before .before .before .before .before .args in
     (omega arith, subst (λ (rs : List ℕ). getD rs (at .loop .slot) 0 < 4) (sym (at .loop .inv .2)) (role-small (bundleAt (a .bytes .now) (a .b)) (at .loop .slot)))
-
-add-slot : tie.Need-add-slot Inv-loop μ-loop
-add-slot c = omega arith
-
-loop-less : tie.Need-loop-less Inv-loop μ-loop
-loop-less c = omega arith
 
 loop-again : tie.Need-loop-again Inv-loop μ-loop
 loop-again c =
@@ -98,16 +74,16 @@ write-bundle-spec =
     Inv-loop
     μ-loop
     bundle-requires
-    roles-requires
+    (λ c κs. tt)
     loop-holds
-    mul-role
-    array-read-role
-    mul-write-role
-    add-write-role
-    add-write-role-2
+    (λ c. omega arith)
+    (λ c. omega arith)
+    (λ c. omega arith)
+    (λ c. omega arith)
+    (λ c. omega arith)
     write-role-requires
-    add-slot
-    loop-less
+    (λ c. omega arith)
+    (λ c. omega arith)
     loop-again
     same-length
     returns)

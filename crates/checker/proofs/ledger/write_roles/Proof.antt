@@ -20,12 +20,6 @@ loop-holds c = let a = c .before .before .args in (omega arith, refl, written-no
 write-bundle-requires : tie.Need-write-bundle-requires Inv-loop μ-loop
 write-bundle-requires c κs = let stands = c .before .before .before .before .before .pre in omega arith
 
-add-b : tie.Need-add-b Inv-loop μ-loop
-add-b c = omega arith
-
-loop-less : tie.Need-loop-less Inv-loop μ-loop
-loop-less c = omega arith
-
 loop-again : tie.Need-loop-again Inv-loop μ-loop
 loop-again c =
     let at = c .before .before .before .before .before in
@@ -59,8 +53,8 @@ write-roles-spec =
     μ-loop
     loop-holds
     write-bundle-requires
-    add-b
-    loop-less
+    (λ c. omega arith)
+    (λ c. omega arith)
     loop-again
     same-length
     returns)

@@ -20,15 +20,6 @@ loop-holds c = (omega arith, refl, λ t h. absurd (omega arith))
 shared-slice-read-old : tie.Need-shared-slice-read-old Inv-loop μ-loop
 shared-slice-read-old c = let same = c .before .before .before .pre in omega arith
 
-slice-write-old : tie.Need-slice-write-old Inv-loop μ-loop
-slice-write-old c = omega arith
-
-add-i : tie.Need-add-i Inv-loop μ-loop
-add-i c = omega arith
-
-loop-less : tie.Need-loop-less Inv-loop μ-loop
-loop-less c = omega arith
-
 loop-again : tie.Need-loop-again Inv-loop μ-loop
 loop-again c =
     let at = c .before .before .loop in
@@ -53,9 +44,9 @@ copy-spec =
     μ-loop
     loop-holds
     shared-slice-read-old
-    slice-write-old
-    add-i
-    loop-less
+    (λ c. omega arith)
+    (λ c. omega arith)
+    (λ c. omega arith)
     loop-again
     same-length
     returns)

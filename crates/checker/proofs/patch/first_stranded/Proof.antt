@@ -46,9 +46,6 @@ loop-holds c = (omega arith, ap (firstFrom _ 0) (minus-zero _))
 role-at-requires : tie.Need-role-at-requires Inv-loop μ-loop
 role-at-requires c κs = (c .before .before .before .before .pre .0, omega arith)
 
-landable-requires : tie.Need-landable-requires Inv-loop μ-loop
-landable-requires c κs = tt
-
 add-count : tie.Need-add-count Inv-loop μ-loop
 add-count c = let fits = c .before .before .before .before .before .before .pre .1 in omega arith
 
@@ -66,12 +63,6 @@ returns c =
     let yes′ : (not (landable (roleAt (a .new .now) (at .loop .k))) && not (eqb (countAt (a .ledger .now) (a .first + at .loop .k)) 0)) ≡ true =
     ap (λ (b : Bool). not b && not (eqb (countAt (a .ledger .now) (a .first + at .loop .k)) 0)) (sym lands) ∙ c .if1 .taken in
     sym (at .loop .inv .1 ∙ ap (firstFrom _ (at .loop .k)) (one-more _ (at .loop .k) (c .before .before .before .before .loop-test .taken)) ∙ first-here _ (at .loop .k) _ (found (a .ledger .now) (a .new .now) (a .first) (at .loop .k) yes′))
-
-add-k : tie.Need-add-k Inv-loop μ-loop
-add-k c = omega arith
-
-loop-less : tie.Need-loop-less Inv-loop μ-loop
-loop-less c = omega arith
 
 loop-again : tie.Need-loop-again Inv-loop μ-loop
 loop-again c =
@@ -103,12 +94,12 @@ first-stranded-spec =
     μ-loop
     loop-holds
     role-at-requires
-    landable-requires
+    (λ c κs. tt)
     add-count
     mul-count
     shared-slice-read-count
     returns
-    add-k
-    loop-less
+    (λ c. omega arith)
+    (λ c. omega arith)
     loop-again
     returns-2)

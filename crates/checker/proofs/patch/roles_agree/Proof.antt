@@ -41,12 +41,6 @@ returns c =
     sym (all-no (λ k. eqb (getD (a .ledger .now) (a .first + k) 0 % 4) (roleAt (a .old .now) k)) (length (a .old .now) / 4) (c .before .before .before .before .loop .k) (c .before .before .before .loop-test .taken)
     (ne-eqb _ _ (λ e. c .if1 .taken (e ∙ sym (c .before .before .role-at .ensures)))))
 
-add-k : tie.Need-add-k Inv-loop μ-loop
-add-k c = omega arith
-
-loop-less : tie.Need-loop-less Inv-loop μ-loop
-loop-less c = omega arith
-
 loop-again : tie.Need-loop-again Inv-loop μ-loop
 loop-again c = (omega arith, below-more _ (c .before .before .before .before .loop .k) (c .before .before .before .before .loop .inv .1) (eq-eqb _ _ (c .if1 .left ∙ c .before .before .role-at .ensures)))
 
@@ -68,7 +62,7 @@ roles-agree-spec =
     mul-if1
     shared-slice-read-if1
     returns
-    add-k
-    loop-less
+    (λ c. omega arith)
+    (λ c. omega arith)
     loop-again
     returns-2)

@@ -26,18 +26,6 @@ loop-holds : tie.Need-loop-holds Inv-loop μ-loop
 unfolding valueOf
 loop-holds c = (omega arith, omega arith, refl)
 
-mul-x : tie.Need-mul-x Inv-loop μ-loop
-mul-x c = omega arith
-
-add-x : tie.Need-add-x Inv-loop μ-loop
-add-x c = omega arith
-
-sub-left : tie.Need-sub-left Inv-loop μ-loop
-sub-left c = omega arith
-
-loop-less : tie.Need-loop-less Inv-loop μ-loop
-loop-less c = omega arith
-
 loop-again : tie.Need-loop-again Inv-loop μ-loop
 loop-again c =
     let at = c .before in
@@ -54,4 +42,4 @@ returns : tie.Need-returns Inv-loop μ-loop
 returns c = let at = c .before in ended (at .loop .left) (at .loop .x) _ (c .loop-test .left) (at .loop .inv .2)
 
 pub value-spec : {M : Type 1} → statement M
-value-spec = tie.close (tie.spec Inv-loop μ-loop loop-holds mul-x add-x sub-left loop-less loop-again returns)
+value-spec = tie.close (tie.spec Inv-loop μ-loop loop-holds (λ c. omega arith) (λ c. omega arith) (λ c. omega arith) (λ c. omega arith) loop-again returns)

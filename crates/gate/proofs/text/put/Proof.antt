@@ -35,12 +35,6 @@ slice-write-out c =
     let i = c .before .loop-test .taken in
     omega arith
 
-add-i : tie.Need-add-i Inv-loop μ-loop
-add-i c = omega arith
-
-loop-less : tie.Need-loop-less Inv-loop μ-loop
-loop-less c = omega arith
-
 loop-again : tie.Need-loop-again Inv-loop μ-loop
 loop-again c =
     let a = c .before .before .before .args in
@@ -80,8 +74,8 @@ put-spec =
     shared-slice-read-out
     add-out
     slice-write-out
-    add-i
-    loop-less
+    (λ c. omega arith)
+    (λ c. omega arith)
     loop-again
     add-result
     same-length

@@ -10,19 +10,6 @@ use borrow.Author.Needs.{needs}
 use Rattle.gate.proofs.text.put_number.Statement.{statement}
 use Rattle.gate.proofs.text.put_number.Tie as tie
 
--- src/text.rt:26:9
-decimal-requires : tie.Need-decimal-requires
-decimal-requires c κs = search needs
-
--- src/text.rt:27:18
-array-share-prefix-digits : tie.Need-array-share-prefix-digits
-array-share-prefix-digits c = search needs
-
--- src/text.rt:27:18
-slice-aggregate-put : tie.Need-slice-aggregate-put
-slice-aggregate-put c = search needs
-
--- src/text.rt:27:5
 put-requires : tie.Need-put-requires
 put-requires c κs =
     let fits = c .before .before .before .before .before .pre in
@@ -31,11 +18,6 @@ put-requires c κs =
     let few = few-digits (c .before .before .before .before .before .args .number) (d .result) (c .before .before .before .before .before .good .1 .1 .0 .1) (d .ensures .1 .0) in
     omega arith
 
--- src/text.rt:21:1
-same-length : tie.Need-same-length
-same-length c = search needs
-
--- src/text.rt:21:1
 returns : tie.Need-returns
 returns c =
     let before = c .before .before .before in
@@ -52,9 +34,9 @@ pub put-number-spec : {M : Type 1} → statement M
 put-number-spec =
     tie.close
     (tie.spec
-    decimal-requires
-    array-share-prefix-digits
-    slice-aggregate-put
+    (λ c κs. search needs)
+    (λ c. search needs)
+    (λ c. search needs)
     put-requires
-    same-length
+    (λ c. search needs)
     returns)
