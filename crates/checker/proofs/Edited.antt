@@ -1,15 +1,11 @@
 -- A region edited: inside the patch its words are the new ones, outside they are the old ones.
 use Prim.Native.Nat.{ℕ, _+_, _-_, _*_, _/_, _%_, _≤_, _<_}
 use native.Mathlib.Omega.{arith}
-use mathlib.Core.Path.{_≡_, _∙_, refl, ap, ap₂, subst}
-use mathlib.Core.Bool.{cond}
+use mathlib.Core.Path.{_≡_, _∙_, refl, ap, subst}
 use mathlib.Core.List.{List, [], _∷_}
-use lib.Dec.{eqb}
 use lib.ListN.{length, getD}
 use borrow.Author.Tests.{le-leb, lt-leb, lt-ltb, le-ltb}
-use Rattle.decoder.specs.declared.reading.Reading.{Reading}
-use Rattle.decoder.specs.Bundle.{readingsOf, blank}
-use Rattle.pairs.specs.Role.{rolesOf}
+use Rattle.decoder.specs.Bundle.{readingsOf}
 use Rattle.checker.specs.Region.{wordAt, bundleWords, bundleAt, readingAt, beforeAt, nextAt, roleAt}
 use Rattle.checker.specs.Edit.{edited}
 use Rattle.checker.proofs.Lists.{list-length, list-at}
@@ -25,19 +21,19 @@ pub record SameWord (xs : List ℕ) (j : ℕ) (ys : List ℕ) (k : ℕ) : Type 0
 module _ (xs : List ℕ) (j : ℕ) (ys : List ℕ) (k : ℕ) where
   pub reading-same : SameWord xs j ys k → readingAt xs j ≡ readingAt ys k
   unfolding readingAt
-  reading-same s = ap₂ (λ (b : List Reading) (i : ℕ). getD b i blank) (s .bundle′) (s .slot′)
+  reading-same s = rw (s .bundle′, s .slot′)
 
   pub before-same : SameWord xs j ys k → beforeAt xs j ≡ beforeAt ys k
   unfolding beforeAt
-  before-same s = ap₂ (λ (b : List Reading) (i : ℕ). cond (eqb i 0) blank (getD b (i - 1) blank)) (s .bundle′) (s .slot′)
+  before-same s = rw (s .bundle′, s .slot′)
 
   pub next-same : SameWord xs j ys k → nextAt xs j ≡ nextAt ys k
   unfolding nextAt
-  next-same s = ap₂ (λ (b : List Reading) (i : ℕ). getD b (i + 1) blank) (s .bundle′) (s .slot′)
+  next-same s = rw (s .bundle′, s .slot′)
 
   pub role-same : SameWord xs j ys k → roleAt xs j ≡ roleAt ys k
   unfolding roleAt
-  role-same s = ap₂ (λ (b : List Reading) (i : ℕ). getD (rolesOf b) i 0) (s .bundle′) (s .slot′)
+  role-same s = rw (s .bundle′, s .slot′)
 
 word-same : (xs : List ℕ) (j : ℕ) (ys : List ℕ) (k : ℕ) → ((i : ℕ) → i < 4 → getD xs (4 * j + i) 0 ≡ getD ys (4 * k + i) 0) → wordAt xs j ≡ wordAt ys k
 unfolding wordAt

@@ -1,2 +1,2 @@
--- Not to be believed: definitions that a law is stated in, and no promise.
+-- To be skipped by a reader of the definitions: a law is stated in it, and no promise.
 pub mod Rebuild

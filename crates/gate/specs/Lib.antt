@@ -1,3 +1,3 @@
--- The line that the small program writes, and what its parts promise.
+-- What a reader must believe of the small program: the line that it writes.
 pub mod Text
 pub mod Line
