@@ -1,5 +1,5 @@
 -- The check, on plain values: each of its answers is the one that the definition gives.
-use Prim.Native.Nat.{ℕ, _+_, _*_, _/_, _%_, _≤_, _<_}
+use Prim.Native.Nat.{ℕ, _+_, _*_, _/_, _%_, _^_, _≤_, _<_}
 use native.Mathlib.Nat.{zero-add, sub-zero, add-comm}
 use native.Mathlib.Omega.{arith}
 use mathlib.Core.Path.{_≡_, _∙_, refl, sym, ap, ap₂, subst}
@@ -17,7 +17,7 @@ use Rattle.rules.specs.declared.outcome.Outcome.the-variants.{Accepted, Refused
 use Rattle.rules.specs.Layout.{layoutHolds, lengthHolds, addressOf}
 use Rattle.rules.specs.Outcome.{Verdict, accepted, refusedAt, reasonVerdict}
 use Rattle.rules.specs.Rule.{landingOf, faultOf}
-use Rattle.rules.proofs.Says.{layout-ends, length-says}
+use Rattle.rules.proofs.Says.{layout-fits, length-says}
 use Rattle.rules.proofs.Lowest.{lowest}
 use Rattle.checker.specs.Lists.{firstFrom}
 use Rattle.checker.specs.parts.First.{First}
@@ -82,11 +82,11 @@ pub record Kept (l : Layout) (code before : List ℕ) : Type 0 where
 module _ {l : Layout} {code before : List ℕ} (k : Kept l code before) where
   pub stands : Stands l (length before) code 0
   stands =
-      let end = layout-ends l (length code) (k .layout) in
+      let end = layout-fits l (length code) (k .layout) in
       let right = length-says (length code) (k .length′) in
       record { whole = right .whole; inside = omega arith; below = bytes (right .whole) end }
     where
-      bytes : length code % 16 ≡ 0 → l .«code_start» + length code ≤ 1_073_741_824 → l .«code_start» + 4 * length before ≤ 1_073_741_824
+      bytes : length code % 16 ≡ 0 → l .«code_start» + length code ≤ 2 ^ 31 → l .«code_start» + 4 * length before ≤ 2 ^ 31
       bytes w end = omega arith
 
   -- after 1, 2 and 3 the words decide
@@ -106,7 +106,7 @@ module _ {l : Layout} {code before : List ℕ} (k : Kept l code before) where
       found-inside = let v = value .0 in omega arith
 
       -- its address lies within the sandbox
-      pub found-address : l .«code_start» + 4 * at < 1_073_741_824
+      pub found-address : l .«code_start» + 4 * at < 2 ^ 31
       found-address = let inside = found-inside in let end = stands .below in let words = k .words in omega arith
 
       found-number : number ≡ codeFault l code at

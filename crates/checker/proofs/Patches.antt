@@ -1,5 +1,5 @@
 -- The patch, on plain values: each of its answers is the one that the definition gives.
-use Prim.Native.Nat.{ℕ, _+_, _-_, _*_, _/_, _%_, _≤_, _<_}
+use Prim.Native.Nat.{ℕ, _+_, _-_, _*_, _/_, _%_, _^_, _≤_, _<_}
 use native.Mathlib.Nat.{zero-add}
 use native.Mathlib.Omega.{arith}
 use mathlib.Core.Path.{_≡_, _∙_, refl, sym, ap, subst}
@@ -16,7 +16,7 @@ use Rattle.rules.specs.declared.outcome.Reason.the-variants.{Layout as LayoutBr
 use Rattle.rules.specs.declared.outcome.Outcome.the-variants.{Accepted, Refused}
 use Rattle.rules.specs.Layout.{layoutHolds, lengthHolds, addressOf}
 use Rattle.rules.specs.Outcome.{Verdict, accepted, refusedAt, reasonVerdict}
-use Rattle.rules.proofs.Says.{layout-ends}
+use Rattle.rules.proofs.Says.{layout-fits}
 use Rattle.rules.proofs.Lowest.{lowest}
 use Rattle.checker.specs.Lists.{firstFrom}
 use Rattle.checker.specs.parts.First.{First}
@@ -78,7 +78,7 @@ module _ {l : Layout} {ledger : List ℕ} {first : ℕ} {old new mid : List ℕ}
       }
 
   -- each new word has an address
-  pub addressed : (n : ℕ) → n ≡ length mid → (k : ℕ) → k < wordsOf new → (l .«code_start» + 4 * n ≤ 1_073_741_824) × (first + k < n)
+  pub addressed : (n : ℕ) → n ≡ length mid → (k : ℕ) → k < wordsOf new → (l .«code_start» + 4 * n ≤ 2 ^ 31) × (first + k < n)
   addressed n e k h = let same = g .same in let end = g .stand .new′ .inside in let top = g .stand .new′ .below in (omega arith, omega arith)
 
   by-words : bundlesVerdict l ledger first old new ≡ newWordsVerdict l ledger first old new
@@ -215,7 +215,7 @@ module _ (l : Layout) (ledger : List ℕ) (offset : ℕ) (old new : List ℕ) wh
             let same : length new ≡ length old = eqb-true _ _ (r .1) in
             let off : offset % 16 ≡ 0 = eqb-true _ _ (q .1) in
             let fits : offset + length new ≤ 4 * length ledger = leb-true _ _ (p .1) in
-            let end = layout-ends l (4 * length ledger) e1 in
+            let end = layout-fits l (4 * length ledger) e1 in
             record {
               old′ = record { whole = subst (λ (x : ℕ). x % 16 ≡ 0) same whole; inside = omega arith; below = end };
               new′ = record { whole = whole; inside = omega arith; below = end };

@@ -75,7 +75,7 @@ pub(crate) fn landing_at(
 // One landing put on word j, or taken off it, if there is such a word. False where its count is at its
 // bound: the number of words, or 0.
 fn move_landing(ledger: &mut [u32], j: usize, on: bool) -> bool
-    requires { ⌜ (length (now ledger) ≤ 2 ^ 28) × (Within (now ledger)) ⌝ }
+    requires { ⌜ (length (now ledger) ≤ 2 ^ 29) × (Within (now ledger)) ⌝ }
     ensures { λ r. ⌜ Moved on (oneOn j) (now (ledger .entry)) (now (ledger .exit)) r ⌝ }
 {
     let words = ledger.len();

@@ -19,11 +19,10 @@ ghost use lib.ListN.{length};
 ghost use Rattle.rules.specs.Layout.{addressOf};
 ghost use Rattle.checker.specs.Lists.{firstFrom};
 ghost use Rattle.checker.specs.Standing.{landings};
-ghost use Rattle.checker.specs.parts.Stands.{Stands};
+ghost use Rattle.checker.specs.parts.Stands.{Stands, BothStand};
 ghost use Rattle.checker.specs.parts.Ledger.{Within, Moved};
 ghost use Rattle.checker.specs.Patch.{countsHold, rolesAgree, strandedAt, shapeHolds, Patched};
 ghost use Rattle.checker.specs.parts.Patch.{countAt, Exchanges, PatchedWords};
-ghost use Rattle.checker.specs.parts.Stands.{BothStand};
 
 // All the landings of the bytes are put on, or taken off; where a count would pass its bound, nothing is
 // changed.
@@ -130,7 +129,7 @@ fn exchange(layout: Layout, ledger: &mut [u32], old: &[u8], new: &[u8], first: u
 
 // The address of word j.
 fn address(layout: Layout, ledger: &[u32], j: usize) -> u32
-    requires { ⌜ (layout .«code_start» + 4 * length (now ledger) ≤ 1_073_741_824) × (j < length (now ledger)) ⌝ }
+    requires { ⌜ (layout .«code_start» + 4 * length (now ledger) ≤ 2 ^ 31) × (j < length (now ledger)) ⌝ }
     ensures { λ r. ⌜ r ≡ addressOf layout j ⌝ }
 {
     layout.code_start + (4 * j) as u32

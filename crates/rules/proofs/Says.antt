@@ -1,5 +1,6 @@
 -- What rule 1 and rule 2 say where they are kept.
-use Prim.Native.Nat.{ℕ, _+_, _%_, _≤_}
+use Prim.Native.Nat.{ℕ, _+_, _%_, _^_, _≤_}
+use native.Mathlib.Omega.{arith}
 use mathlib.Core.Path.{_≡_}
 use mathlib.Core.Bool.{true, _&&_}
 use lib.Dec.{eqb, leb}
@@ -8,9 +9,10 @@ use Rattle.decoder.proofs.Bools.{both}
 use Rattle.rules.specs.declared.layout.Layout.{Layout}
 use Rattle.rules.specs.Layout.{sandboxEnd, codeLimit, inBundles, inOrder, layoutHolds, lengthHolds}
 
-pub layout-ends : (l : Layout) (length : ℕ) → layoutHolds l length ≡ true → l .«code_start» + length ≤ 1_073_741_824
+-- an address of the code has 31 bits
+pub layout-fits : (l : Layout) (length : ℕ) → layoutHolds l length ≡ true → l .«code_start» + length ≤ 2 ^ 31
 unfolding layoutHolds sandboxEnd
-layout-ends l length e = leb-true _ _ (both (inBundles l && inOrder l) (leb (l .«code_start» + length) 1_073_741_824) e .1)
+layout-fits l length e = let ends : l .«code_start» + length ≤ sandboxEnd = leb-true _ _ (both (inBundles l && inOrder l) (leb (l .«code_start» + length) sandboxEnd) e .1) in omega arith
 
 pub layout-starts : (l : Layout) (length : ℕ) → layoutHolds l length ≡ true → l .«code_start» % 16 ≡ 0
 unfolding layoutHolds

@@ -1,7 +1,7 @@
 -- `check::check` meets its contract: the tests that led to each `return` say which case of the definition holds.
 use borrow.Author.Needs.{needs}
 use borrow.Author.Tests.{not-true, not-false}
-use Prim.Native.Nat.{_+_, _*_, _<_}
+use Prim.Native.Nat.{_+_, _*_, _^_, _<_}
 use native.Mathlib.Omega.{arith}
 use mathlib.Core.Path.{_≡_, _∙_, sym}
 use mathlib.Core.Bool.{true}
@@ -27,7 +27,7 @@ kept : (c : tie.Else3) → Kept (entry c .args .layout) (entry c .args .code .no
 kept c = record { layout = e1 (c .before .before .before); length′ = e2 (c .before); words = c .if3 .left }
 
 -- the address of the word at fault
-address-fits : (c : tie.Then4) → entry (c .before .before .before) .args .layout .«code_start» + 4 * c .before .first-fault .result .at < 1_073_741_824
+address-fits : (c : tie.Then4) → entry (c .before .before .before) .args .layout .«code_start» + 4 * c .before .first-fault .result .at < 2 ^ 31
 address-fits c = found-address (kept (c .before .before .before)) (c .before .first-fault .ensures) (c .if4 .taken)
 
 returns : tie.Need-returns

@@ -1,7 +1,7 @@
 -- `patch::patch_words` meets its contract: the tests that led to each `return` say which case of the definition holds, and a refusal has
 -- undone what it moved.
 use borrow.Author.Needs.{needs}
-use Prim.Native.Nat.{ℕ, _+_, _*_, _≤_, _<_}
+use Prim.Native.Nat.{ℕ, _+_, _*_, _^_, _≤_, _<_}
 use native.Mathlib.Omega.{arith}
 use mathlib.Core.Path.{_≡_, _∙_, sym, ap, subst}
 use mathlib.Core.Bool.{Bool, true}
@@ -45,12 +45,12 @@ agreed c =
     }
 
 -- the addresses of the words at fault, after the exchange is undone
-fault-addressed : (c : tie.After-struct-known2) → (entry (c .before .before .before .before .before .before .before .before) .args .layout .«code_start» + 4 * length (c .before .before .before .before .exchange2 .last .1 .0) ≤ 1_073_741_824) × (entry (c .before .before .before .before .before .before .before .before) .args .first + c .before .before .before .before .before .before .before .before .before .before .before .before .before .before .before .first-fault .result .at < length (c .before .before .before .before .exchange2 .last .1 .0))
+fault-addressed : (c : tie.After-struct-known2) → (entry (c .before .before .before .before .before .before .before .before) .args .layout .«code_start» + 4 * length (c .before .before .before .before .exchange2 .last .1 .0) ≤ 2 ^ 31) × (entry (c .before .before .before .before .before .before .before .before) .args .first + c .before .before .before .before .before .before .before .before .before .before .before .before .before .before .before .first-fault .result .at < length (c .before .before .before .before .exchange2 .last .1 .0))
 fault-addressed c =
     let g = agreed (c .before .before .before .before .before .before .before .before) in
     addressed g _ (c .before .before .before .before .exchange2 .kept .1 .0) _ (fault-inside g (c .before .before .before .before .before .before .before .before .before .before .before .before .before .before .before .first-fault .ensures) (c .before .before .before .before .before .before .before .if4 .taken))
 
-strand-addressed : (c : tie.After-address-arg2) → (entry (c .before .before .before .before .before .before .before .before) .args .layout .«code_start» + 4 * length (c .before .before .before .exchange3 .last .1 .0) ≤ 1_073_741_824) × (entry (c .before .before .before .before .before .before .before .before) .args .first + c .before .before .before .before .before .before .before .before .before .before .before .before .exchange .result .strand < length (c .before .before .before .exchange3 .last .1 .0))
+strand-addressed : (c : tie.After-address-arg2) → (entry (c .before .before .before .before .before .before .before .before) .args .layout .«code_start» + 4 * length (c .before .before .before .exchange3 .last .1 .0) ≤ 2 ^ 31) × (entry (c .before .before .before .before .before .before .before .before) .args .first + c .before .before .before .before .before .before .before .before .before .before .before .before .exchange .result .strand < length (c .before .before .before .exchange3 .last .1 .0))
 strand-addressed c = addressed (agreed (c .before .before .before .before .before .before .before .before)) _ (c .before .before .before .exchange3 .kept .1 .0) _ (c .before .before .before .before .before .before .if5 .taken)
 
 returns : tie.Need-returns
