@@ -8,7 +8,6 @@ use rules::outcome::Outcome;
 use rules::outcome::address;
 use rules::outcome::number;
 ghost use mathlib.Core.Path.{_≡_};
-ghost use lib.ListN.{length};
 ghost use Rattle.rules.specs.Outcome.{verdictOf};
 ghost use Rattle.awlthimble.specs.Answer.{packed, layoutOf, CheckAnswered, PatchAnswered};
 

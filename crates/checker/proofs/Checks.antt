@@ -17,7 +17,7 @@ use Rattle.rules.specs.declared.outcome.Outcome.the-variants.{Accepted, Refused
 use Rattle.rules.specs.Layout.{layoutHolds, lengthHolds, addressOf}
 use Rattle.rules.specs.Outcome.{Verdict, accepted, refusedAt, reasonVerdict}
 use Rattle.rules.specs.Rule.{landingOf, faultOf}
-use Rattle.rules.proofs.Says.{layout-fits, length-says}
+use Rattle.rules.proofs.Says.{layout-says, length-says}
 use Rattle.rules.proofs.Lowest.{lowest}
 use Rattle.checker.specs.Lists.{firstFrom}
 use Rattle.checker.specs.parts.First.{First}
@@ -82,7 +82,7 @@ pub record Kept (l : Layout) (code before : List ℕ) : Type 0 where
 module _ {l : Layout} {code before : List ℕ} (k : Kept l code before) where
   pub stands : Stands l (length before) code 0
   stands =
-      let end = layout-fits l (length code) (k .layout) in
+      let end = layout-says l (length code) (k .layout) .fits in
       let right = length-says (length code) (k .length′) in
       record { whole = right .whole; inside = omega arith; below = bytes (right .whole) end }
     where
@@ -105,7 +105,7 @@ module _ {l : Layout} {code before : List ℕ} (k : Kept l code before) where
       found-inside : at < wordsOf code
       found-inside = let v = value .0 in omega arith
 
-      -- its address lies within the sandbox
+      -- its address has 31 bits
       pub found-address : l .«code_start» + 4 * at < 2 ^ 31
       found-address = let inside = found-inside in let end = stands .below in let words = k .words in omega arith
 

@@ -10,7 +10,6 @@ pub mod Patches
 pub mod Placed
 pub mod Edited
 pub mod Recount
-pub mod Landing
 pub mod Checks
 pub mod Demands
 pub mod Refresh

@@ -16,18 +16,17 @@ use Rattle.rules.specs.declared.outcome.Reason.the-variants.{Layout as LayoutBr
 use Rattle.rules.specs.declared.outcome.Outcome.the-variants.{Accepted, Refused}
 use Rattle.rules.specs.Layout.{layoutHolds, lengthHolds, addressOf}
 use Rattle.rules.specs.Outcome.{Verdict, accepted, refusedAt, reasonVerdict}
-use Rattle.rules.proofs.Says.{layout-fits}
+use Rattle.rules.proofs.Says.{layout-says}
 use Rattle.rules.proofs.Lowest.{lowest}
 use Rattle.checker.specs.Lists.{firstFrom}
 use Rattle.checker.specs.parts.First.{First}
 use Rattle.checker.specs.Region.{roleAt}
 use Rattle.checker.specs.Standing.{landings, faultAt, roleFrom, standingFault}
-use Rattle.checker.specs.parts.Stands.{Stands}
+use Rattle.checker.specs.parts.Stands.{Stands, BothStand}
 use Rattle.checker.specs.parts.Ledger.{RolesWritten}
 use Rattle.checker.specs.Check.{wordsOf, ledgerAfter}
 use Rattle.checker.specs.Patch.{shapeHolds, countsHold, rolesAgree, oldCounted, countLess, newFit, agrees, strandedVerdict, newWordsVerdict, movedEntry, movedLedger, bundlesVerdict, patchVerdict, Patched}
 use Rattle.checker.specs.parts.Patch.{PatchedWords}
-use Rattle.checker.specs.parts.Stands.{BothStand}
 use Rattle.checker.proofs.First.{first-value, first-end}
 use Rattle.checker.proofs.Lists.{split, list-is}
 use Rattle.checker.proofs.Undo.{Agreed, count-after}
@@ -215,7 +214,7 @@ module _ (l : Layout) (ledger : List ℕ) (offset : ℕ) (old new : List ℕ) wh
             let same : length new ≡ length old = eqb-true _ _ (r .1) in
             let off : offset % 16 ≡ 0 = eqb-true _ _ (q .1) in
             let fits : offset + length new ≤ 4 * length ledger = leb-true _ _ (p .1) in
-            let end = layout-fits l (4 * length ledger) e1 in
+            let end = layout-says l (4 * length ledger) e1 .fits in
             record {
               old′ = record { whole = subst (λ (x : ℕ). x % 16 ≡ 0) same whole; inside = omega arith; below = end };
               new′ = record { whole = whole; inside = omega arith; below = end };

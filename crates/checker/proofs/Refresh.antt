@@ -26,7 +26,7 @@ use Rattle.checker.proofs.Demands.{ledger-entries}
 use Rattle.checker.proofs.Placed.{Placed, Parts, parts}
 use Rattle.checker.proofs.Edited.{SameWord, reading-same, before-same, next-same, role-same, word-in, word-out, word-low, edited-length}
 use Rattle.checker.proofs.Recount.{target-same, low, high, old-length, counted-before, Outside, some-outside}
-use Rattle.checker.proofs.Landing.{landable-keeps, lands-right}
+use Rattle.rules.proofs.Landing.{landable-keeps, lands-right}
 
 quarter : (x c r : ℕ) → x ≡ 4 * c + r → r < 4 → x / 4 ≡ c
 quarter x c r e h = omega arith

@@ -9,7 +9,7 @@ use rules::layout::length_holds;
 use rules::outcome::Outcome;
 use rules::outcome::Reason;
 ghost use mathlib.Core.Path.{_≡_};
-ghost use Prim.Native.Nat.{_*_, _/_, _≤_};
+ghost use Prim.Native.Nat.{_/_, _≤_};
 ghost use lib.ListN.{length};
 ghost use Rattle.rules.specs.Outcome.{refusedAt, reasonVerdict};
 ghost use Rattle.checker.specs.parts.Stands.{Stands};

@@ -13,7 +13,6 @@ use rules::outcome::Outcome;
 use rules::outcome::Reason;
 use rules::rule::landable;
 ghost use mathlib.Core.Path.{_≡_};
-ghost use mathlib.Core.Bool.{true};
 ghost use Prim.Native.Nat.{_+_, _*_, _/_, _%_, _^_, _≤_, _<_};
 ghost use lib.ListN.{length};
 ghost use Rattle.rules.specs.Layout.{addressOf};

@@ -2,6 +2,7 @@
 pub mod Tests
 pub mod Says
 pub mod Lowest
+pub mod Landing
 pub mod Reasons
 pub mod Unique
 pub mod Points

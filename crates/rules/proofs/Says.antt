@@ -9,18 +9,24 @@ use Rattle.decoder.proofs.Bools.{both}
 use Rattle.rules.specs.declared.layout.Layout.{Layout}
 use Rattle.rules.specs.Layout.{sandboxEnd, codeLimit, inBundles, inOrder, layoutHolds, lengthHolds}
 
--- an address of the code has 31 bits
-pub layout-fits : (l : Layout) (length : ℕ) → layoutHolds l length ≡ true → l .«code_start» + length ≤ 2 ^ 31
-unfolding layoutHolds sandboxEnd
-layout-fits l length e = let ends : l .«code_start» + length ≤ sandboxEnd = leb-true _ _ (both (inBundles l && inOrder l) (leb (l .«code_start» + length) sandboxEnd) e .1) in omega arith
+-- an address of the code has 31 bits, and the code lies above the trampolines
+pub record RightLayout (l : Layout) (length : ℕ) : Type 0 where
+  pub fits : l .«code_start» + length ≤ 2 ^ 31
+  pub above : l .«trampoline_end» ≤ l .«code_start»
 
-pub layout-starts : (l : Layout) (length : ℕ) → layoutHolds l length ≡ true → l .«code_start» % 16 ≡ 0
-unfolding layoutHolds
-layout-starts l length e =
-    let s = eqb (l .«code_start» % 16) 0 in
-    let f = eqb (l .«trampoline_first» % 16) 0 in
-    let t = eqb (l .«trampoline_end» % 16) 0 in
-    eqb-true _ _ (both s f (both (s && f) t (both (inBundles l) (inOrder l) (both (inBundles l && inOrder l) (leb (l .«code_start» + length) sandboxEnd) e .0) .0) .0) .0)
+pub layout-says : (l : Layout) (length : ℕ) → layoutHolds l length ≡ true → RightLayout l length
+unfolding layoutHolds sandboxEnd
+layout-says l length e =
+    let p = leb 65536 (l .«trampoline_first») in
+    let q = leb (l .«trampoline_first») (l .«trampoline_end») in
+    let r = leb (l .«trampoline_end») 131072 in
+    let s = leb 131072 (l .«code_start») in
+    let parts = both (inBundles l && inOrder l) (leb (l .«code_start» + length) sandboxEnd) e in
+    let ends : l .«code_start» + length ≤ sandboxEnd = leb-true _ _ (parts .1) in
+    let order = both (p && q && r) s (both (inBundles l) (inOrder l) (parts .0) .1) in
+    let low : l .«trampoline_end» ≤ 131072 = leb-true _ _ (both (p && q) r (order .0) .1) in
+    let high : 131072 ≤ l .«code_start» = leb-true _ _ (order .1) in
+    record { fits = omega arith; above = omega arith }
 
 pub record RightLength (length : ℕ) : Type 0 where
   pub least : 16 ≤ length

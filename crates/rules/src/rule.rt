@@ -23,7 +23,6 @@ use pairs::pair::test_guards;
 use pairs::role::HEAD;
 use pairs::role::PLAIN;
 ghost use mathlib.Core.Path.{_≡_};
-ghost use Rattle.decoder.specs.declared.reading.Reading.{Reading};
 ghost use Rattle.rules.specs.Rule.{rule4 as «r4», rule5 as «r5», rule6 as «r6», wantsGuard, rule7 as «r7», rule8 as «r8», rule9 as «r9», literalHolds, rule10 as «r10», wordAtAddress, landingOf, inTrampolines, landable as «can-land», rule11 as «r11», rulesOf, lowestFrom, faultOf};
 
 const THREAD: u32 = 9;

@@ -1,5 +1,5 @@
 -- What the role of a word's target decides: rule 11, and no other.
-use Prim.Native.Nat.{ℕ, _+_, _%_, _≤_, _<_}
+use Prim.Native.Nat.{ℕ, _%_, _≤_, _<_}
 use native.Mathlib.Omega.{arith}
 use mathlib.Core.Path.{_≡_, _∙_, refl, sym, ap}
 use mathlib.Core.Bool.{Bool, true, false, not, _&&_, _||_, true≢false}
@@ -10,11 +10,12 @@ use Rattle.decoder.specs.declared.reading.Reading.{Reading}
 use Rattle.decoder.specs.declared.place.Place.{Place}
 use Rattle.decoder.specs.declared.place.Place.the-variants.{Absent, Below, At}
 use Rattle.decoder.specs.Place.{targetOf, literalOf}
-use Rattle.decoder.proofs.Bools.{both, by-test}
+use Rattle.decoder.proofs.Bools.{by-test}
 use Rattle.rules.specs.declared.layout.Layout.{Layout}
-use Rattle.rules.specs.Layout.{sandboxEnd, inBundles, inOrder, layoutHolds}
+use Rattle.rules.specs.Layout.{layoutHolds}
 use Rattle.rules.specs.Rule.{rule4, rule5, rule6, rule7, rule8, rule9, rule10, wordAtAddress, landingOf, inTrampolines, landable, rule11, rulesOf, lowestFrom, faultOf, breaks}
+use Rattle.rules.proofs.Says.{layout-says}
 use Rattle.rules.proofs.Lowest.{none-fault}
 
 pick : (x p q t : Bool) → not ((x && p) || t) ≡ false → q ≡ true → not ((x && q) || t) ≡ false
 pick true p q t e f = ap (λ (b : Bool). not (b || t)) f
@@ -34,16 +35,9 @@ module _ (l : Layout) (n : ℕ) where
 
   -- a word of the code lies above the trampolines
   off-trampolines : (length a : ℕ) → layoutHolds l length ≡ true → wordAtAddress l n a < n → inTrampolines l a ≡ false
-  unfolding layoutHolds wordAtAddress inTrampolines
+  unfolding wordAtAddress inTrampolines
   off-trampolines length a e h =
-      let p = leb 65536 (l .«trampoline_first») in
-      let q = leb (l .«trampoline_first») (l .«trampoline_end») in
-      let r = leb (l .«trampoline_end») 131072 in
-      let s = leb 131072 (l .«code_start») in
-      let order = both (inBundles l) (inOrder l) (both (inBundles l && inOrder l) (leb (l .«code_start» + length) sandboxEnd) e .0) .1 in
-      let ends = both (p && q && r) s order in
-      let end : l .«trampoline_end» ≤ 131072 = leb-true _ _ (both (p && q) r (ends .0) .1) in
-      let start : 131072 ≤ l .«code_start» = leb-true _ _ (ends .1) in
+      let order = layout-says l length e .above in
       by-test (leb (l .«code_start») a)
       (λ t.
       let above : l .«code_start» ≤ a = leb-true _ _ t in
