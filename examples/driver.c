@@ -5,9 +5,9 @@
  *
  * ADDON and PATCH are files of raw code; PATCH replaces the bundles that stand OFFSET bytes into ADDON.
  * Exit status: 0 accepted; 1 refused; 2 wrong usage, or a file that could not be read. After
- * `rt staticlib awlthimble`:
+ * `box/build`:
  *
- *     cc -Iinclude examples/driver.c target/staticlib/libawlthimble.a -o driver */
+ *     cc -Iinclude examples/driver.c target/host/libawlthimble.a -o driver */
 #include "awlthimble.h"
 
 #include <errno.h>

@@ -11,8 +11,9 @@ use std::io::{ErrorKind, Write};
 use std::path::Path;
 use std::process::{Child, Command, Output, Stdio};
 
-/// Memory for the program and its libraries, and not for a long input.
-const KIB_ALLOWED: u32 = 65_536;
+/// Memory for the program, its libraries and an emulator beneath it, and not for
+/// a long input.
+const KIB_ALLOWED: u32 = 262_144;
 
 /// Starts the program in little memory.
 fn start(input: Stdio) -> Child {
