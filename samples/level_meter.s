@@ -1,6 +1,6 @@
 @ A level meter, as a dubbing studio's driver would load it. The gate accepts it.
 @
-@   in:   r0 the samples (24-bit sound in 32-bit words), r1 how many, r2 where the results go
+@   in:   r0 the samples (16-bit sound), r1 how many, r2 where the results go
 @   out:  four words at r2: the peak, the level sum (low, then high word), the overload lamp
 @
 @ The gate reads code in bundles of sixteen bytes, four words each. A guard and the word it guards
@@ -15,15 +15,8 @@
         .p2align 4
         .global level_meter
 level_meter:
-        .bundle_lock                            @ sp may change if its mask follows at once
-        sub     sp, sp, #16
-        bic     sp, sp, #0xC0000000
-        .bundle_unlock
-        str     lr, [sp, #12]                   @ so an access on sp needs no guard
-        str     r4, [sp]
-
-        str     r5, [sp, #4]
-        str     r6, [sp, #8]
+        push    {r4-r6, lr}                     @ an access on sp needs no guard
+        ldr     r12, full_scale                 @ a literal load: data that lies in the code
         mov     r4, #0                          @ peak
         mov     r5, #0                          @ level sum, low word
 
@@ -35,7 +28,7 @@ level_meter:
 loop:
         .bundle_lock                            @ a load behind its mask, and on to the next sample
         bic     r0, r0, #0xC0000000
-        ldr     r3, [r0], #4
+        ldrsh   r3, [r0], #2
         .bundle_unlock
         sub     r1, r1, #1
         .bundle_lock align_to_end               @ a call stands last: it returns to a bundle's start
@@ -50,39 +43,19 @@ call:   bl      abs_value - call                @ (written as a distance, since 
         cmp     r1, #0
         bne     loop                            @ lands on the mask; on the load it would be refused
 done:
-        ldr     r12, full_scale                 @ a literal load: data that lies in the code
-        mov     r3, #0
-
         cmp     r4, r12
-        movhs   r3, #1                          @ overload
+        movhs   r1, #1                          @ overload; else r1 is 0, as no sample is left
+
         .bundle_lock                            @ a test pair: stores only if the pointer is good
         tst     r2, #0xC0000000
-        streq   r3, [r2, #12]
+        streq   r1, [r2, #12]
         .bundle_unlock
-
-        .bundle_lock                            @ stores behind masks: each has its own
+        .bundle_lock                            @ peak and level sum at once, behind one mask
         bic     r2, r2, #0xC0000000
-        str     r4, [r2]
-        .bundle_unlock
-        .bundle_lock
-        bic     r2, r2, #0xC0000000
-        str     r5, [r2, #4]
+        stm     r2, {r4-r6}
         .bundle_unlock
 
-        .bundle_lock
-        bic     r2, r2, #0xC0000000
-        str     r6, [r2, #8]
-        .bundle_unlock
-        ldr     r4, [sp]
-        ldr     r5, [sp, #4]
-
-        ldr     r6, [sp, #8]
-        ldr     lr, [sp, #12]
-        .bundle_lock
-        add     sp, sp, #16
-        bic     sp, sp, #0xC0000000
-        .bundle_unlock
-
+        pop     {r4-r6, lr}                     @ into lr, since a load of pc would be refused
         .bundle_lock                            @ a return: to a bundle's start, inside the sandbox
         bic     lr, lr, #0xC000000F
         bx      lr
@@ -100,6 +73,6 @@ abs_value:                                      @ r3 becomes its absolute value
         .p2align 4
         bkpt    0x5BE0                          @ a literal head: the rest of its bundle is data
 full_scale:
-        .word   0x007FFFFF                      @ the loudest 24-bit sample
+        .word   0x00007FFF                      @ full scale in 16 bits; |-32768| is above it
         .word   0xEF000000                      @ refused as code (svc), allowed as data
         .word   0xFFFFFFFF

@@ -4,6 +4,7 @@
 mod pairs;
 pub mod patches;
 mod places;
+mod transfers;
 
 use crate::make::*;
 use crate::regions::{self, address, aim, bundle, region, spoil, FREE};
@@ -70,10 +71,11 @@ fn shares<T, const N: usize>(
     })
 }
 
-const REGIONS: [Family<Case>; 11] = [
+const REGIONS: [Family<Case>; 12] = [
     Family { name: "random", share: 1, make: random },
     Family { name: "edges", share: 4, make: edges },
     Family { name: "pairs", share: 4, make: pairs::pairs },
+    Family { name: "transfers", share: 4, make: transfers::transfers },
     Family { name: "heads", share: 1, make: heads },
     Family { name: "branches", share: 3, make: places::branches },
     Family { name: "literals", share: 2, make: places::literals },
@@ -115,7 +117,7 @@ fn random(rng: &mut Rng) -> Case {
         }
         _ => {
             let place = rng.below(words.len());
-            let class = rng.pick(&[0b000, 0b001, 0b010, 0b101]);
+            let class = rng.pick(&[0b000, 0b001, 0b010, 0b100, 0b101]);
             words[place] = rng.word() & !(7 << 25) & !(1 << 28) | class << 25;
         }
     }
@@ -124,12 +126,17 @@ fn random(rng: &mut Rng) -> Case {
 
 /// A word of some class at the class's edge, with or without its neighbours.
 fn edges(rng: &mut Rng) -> Case {
-    let mut words = nops(rng, 2);
-    let place = rng.below(words.len());
     let mut word = edge_word(rng);
     for _ in 0..rng.below(4) {
         word ^= 1 << rng.field(32);
     }
+    placed(rng, word)
+}
+
+/// A word among nops, and often what guards or closes it.
+fn placed(rng: &mut Rng, word: u32) -> Case {
+    let mut words = nops(rng, 2);
+    let place = rng.below(words.len());
     words[place] = word;
     if !place.is_multiple_of(4) && !rng.once_in(4) {
         let tested = word >> 28 == EQUAL && rng.once_in(2);
@@ -140,7 +147,9 @@ fn edges(rng: &mut Rng) -> Case {
         words[place + 1] = mask(word >> 28, regions::SP, rng.pick(&DATA_BITS));
     }
     let layout = layout(rng, &words);
-    visit(rng, &layout, &mut words, place);
+    if rng.once_in(2) {
+        visit(rng, &layout, &mut words, place);
+    }
     Case::new(layout, &words)
 }
 
@@ -149,7 +158,7 @@ fn edge_word(rng: &mut Rng) -> u32 {
     let c = edge_condition(rng);
     let [a, b, d] = [(); 3].map(|()| edge_register(rng));
     let low = rng.word() & 0xFFF;
-    match rng.below(14) {
+    match rng.below(16) {
         0 => data(c, rng.field(16), rng.field(2), a, b, IMMEDIATE | low),
         1 => data(c, rng.field(16), rng.field(2), a, b, low & 0xFE0 | d),
         2 => data(c, rng.field(16), rng.field(2), a, b, d << 8 | low & 0x6F | 0x10),
@@ -161,7 +170,8 @@ fn edge_word(rng: &mut Rng) -> u32 {
         8 => multiply_add(c, a, b, d, edge_register(rng)),
         9 | 10 => access(c, rng.field(32), a, b, low),
         11 => access(c, P | L | rng.pick(&[0, U]), 15, a, low & 0x3F),
-        12 => c << 28 | (0b1010 | rng.field(2)) << 24 | rng.word() & 0xF,
+        12 | 13 => transfers::word(rng),
+        14 => c << 28 | (0b1010 | rng.field(2)) << 24 | rng.word() & 0xF,
         _ => register_branch(c, rng.once_in(2), a),
     }
 }
@@ -181,6 +191,11 @@ fn edge_register(rng: &mut Rng) -> u32 {
     } else {
         rng.pick(&FREE)
     }
+}
+
+/// Sets four bits of a word from a place up.
+fn set(word: &mut u32, place: u32, field: u32) {
+    *word = *word & !(15 << place) | field << place;
 }
 
 /// Heads in right and wrong slots, all but heads, any data behind them.
@@ -207,7 +222,8 @@ fn heads(rng: &mut Rng) -> Case {
 
 /// One bundle of a case where the words themselves are odd.
 fn odd_bundle(rng: &mut Rng) -> Vec<u32> {
-    let words = words(&rng.pick(&[random, edges, pairs::pairs, heads])(rng).code);
+    let make = rng.pick(&[random, edges, pairs::pairs, transfers::transfers, heads]);
+    let words = words(&make(rng).code);
     let first = 4 * rng.below(words.len() / 4);
     words[first..first + 4].to_vec()
 }

@@ -24,6 +24,8 @@ pub const U: u32 = 8;
 pub const B: u32 = 4;
 pub const W: u32 = 2;
 pub const L: u32 = 1;
+/// In B's place for a half access: the distance is immediate.
+pub const I: u32 = 4;
 
 /// A data word; `low` is its bits 11 to 0, with `IMMEDIATE` or without.
 pub fn data(condition: u32, operation: u32, s: u32, rn: u32, rd: u32, low: u32) -> u32 {
@@ -56,6 +58,24 @@ pub fn access(condition: u32, letters: u32, rn: u32, rt: u32, distance: u32) -> 
     condition << 28 | 0b010 << 25 | letters << 20 | rn << 16 | rt << 12 | distance & 0xFFF
 }
 
+/// A half access; its kind is bits 6 and 5.
+pub fn half_access(
+    condition: u32,
+    letters: u32,
+    kind: u32,
+    rn: u32,
+    rt: u32,
+    distance: u32,
+) -> u32 {
+    let low = (distance & 0xF0) << 4 | 9 << 4 | kind << 5 | distance & 15;
+    condition << 28 | letters << 20 | rn << 16 | rt << 12 | low
+}
+
+/// A multiple transfer; the list is bits 15 to 0.
+pub fn multiple(condition: u32, letters: u32, rn: u32, list: u32) -> u32 {
+    condition << 28 | 0b100 << 25 | letters << 20 | rn << 16 | list
+}
+
 /// A literal load at one address of the bytes at another, 4,095 away at most.
 pub fn literal(condition: u32, rt: u32, own: u32, from: i64) -> u32 {
     let distance = from - (i64::from(own) + 8);
@@ -78,8 +98,10 @@ pub fn register_branch(condition: u32, call: bool, rm: u32) -> u32 {
 /// for any other word a mask as good as any.
 pub fn guard(word: u32) -> u32 {
     let condition = word >> 28;
+    let of_base = mask(condition, word >> 16 & 15, DATA_BITS[0]);
     match word >> 20 & 0xFF {
-        0x40..=0x5F => mask(condition, word >> 16 & 15, DATA_BITS[0]),
+        0x40..=0x5F | 0x80..=0x9F => of_base,
+        0x04..=0x1F if word & 0x90 == 0x90 => of_base,
         0x12 => mask(condition, word & 15, BRANCH_BITS[0]),
         _ => mask(ALWAYS, 0, DATA_BITS[0]),
     }

@@ -21,7 +21,7 @@ pub enum Pair {
 pub fn pair(first: Option<Reading>, second: Option<Reading>) -> Option<Pair> {
     let (first, second) = (&first?, &second?);
     match second.class {
-        Class::Access if needs_guard(second) => guard(first, second),
+        Class::Access(_) if needs_guard(second) => guard(first, second),
         Class::RegisterBranch => {
             let masks = is_mask(first, second.rm(), BRANCH_BITS);
             (masks && same_condition(first, second)).then_some(Pair::MaskedBranch)

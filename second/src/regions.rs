@@ -9,6 +9,8 @@ use std::ops::Range;
 
 /// Registers any word may name.
 pub const FREE: [u32; 13] = [0, 1, 2, 3, 4, 5, 6, 7, 8, 10, 11, 12, 14];
+/// The same as a list.
+pub const FREE_LIST: u32 = 0x5DFF;
 pub const SP: u32 = 13;
 
 /// The layout of "Words from the bench".
@@ -114,11 +116,40 @@ fn pair(rng: &mut Rng, last: bool, test_pairs: bool) -> [u32; 2] {
     }
 }
 
-/// An access on a register, of another one that is free.
+/// An access on a register, of others that are free.
 fn free_access(rng: &mut Rng, condition: u32, rn: u32) -> u32 {
     let others: Vec<u32> = FREE.into_iter().filter(|&rt| rt != rn).collect();
-    let letters = rng.pick(&[0, P, P | W]) | rng.pick(&[0, U]) | rng.pick(&[0, B, L, B | L]);
-    access(condition, letters, rn, rng.pick(&others), rng.word())
+    let rt = rng.pick(&others);
+    some_access(rng, condition, rn, rt)
+}
+
+/// An access of any kind on a register, of another one. It is in its class, but
+/// for write-back where the two are one.
+pub fn some_access(rng: &mut Rng, condition: u32, rn: u32, rt: u32) -> u32 {
+    match rng.below(4) {
+        0 => some_half(rng, condition, rn, rt),
+        1 => some_multiple(rng, condition, rn, rt),
+        _ => {
+            let letters = some_letters(rng) | rng.pick(&[0, B, L, B | L]);
+            access(condition, letters, rn, rt, rng.word())
+        }
+    }
+}
+
+pub fn some_half(rng: &mut Rng, condition: u32, rn: u32, rt: u32) -> u32 {
+    let (load, kind) = rng.pick(&[(0, 1), (L, 1), (L, 2), (L, 3)]);
+    half_access(condition, some_letters(rng) | I | load, kind, rn, rt, rng.word())
+}
+
+/// Moves any free registers besides.
+pub fn some_multiple(rng: &mut Rng, condition: u32, rn: u32, rt: u32) -> u32 {
+    let letters = rng.field(32) & !B;
+    let others = if letters & W == 0 { FREE_LIST } else { FREE_LIST & !(1 << rn) };
+    multiple(condition, letters, rn, rng.word() & others | 1 << rt)
+}
+
+fn some_letters(rng: &mut Rng) -> u32 {
+    rng.pick(&[0, P, P | W]) | rng.pick(&[0, U])
 }
 
 /// A data word that writes a free register or none.

@@ -1,17 +1,22 @@
-//! Every statement of document 01's "Words from the bench", in its order.
+//! Every statement of document 01's "Words from the bench", in its order, and the
+//! words given for request 1 of document 02.
 
 use crate::families::{patches::Call, Case};
 use crate::make::{padded, NOP as N};
 use crate::outcome::{Fault, Outcome, LENGTH};
 use crate::regions::BENCH_LAYOUT;
 
-/// A call, and what the paper says of it: the ledger afterwards, or the refusal.
+/// A call, and what the papers say of it: the ledger afterwards, or the refusal.
 pub struct Row<T> {
     pub call: T,
     pub says: Result<Vec<u32>, Outcome>,
 }
 
 pub fn checks() -> Vec<Row<Case>> {
+    [bench(), transfers()].into_iter().flatten().collect()
+}
+
+fn bench() -> Vec<Row<Case>> {
     let longest = [N; 16_384];
     vec![
         accepts(&[N, N, N, N], &[0, 0, 0, 0]),
@@ -43,6 +48,35 @@ pub fn checks() -> Vec<Row<Case>> {
         too_short_or_long(15),
         too_short_or_long(65_552),
         accepts(&longest, &[0; 16_384]),
+    ]
+}
+
+/// Request 1: multiple transfers, then halfwords and signed accesses.
+fn transfers() -> Vec<Row<Case>> {
+    let mask = 0xE3C0_0103;
+    vec![
+        accepts(&[0xE92D_4010], &[0, 0, 0, 0]),
+        accepts(&[0xE8BD_4010], &[0, 0, 0, 0]),
+        refuses(&[0xE8BD_8010], 5, 131_072),
+        accepts(&[mask, 0xE890_0006], &[0, 1, 0, 0]),
+        refuses(&[0xE890_0006], 7, 131_072),
+        refuses(&[0xE8A0_0001], 4, 131_072),
+        refuses(&[0xE890_0000], 4, 131_072),
+        refuses(&[0xE8D0_0006], 4, 131_072),
+        refuses(&[0xE89D_2001], 6, 131_072),
+        refuses(&[0xE8BD_2001], 4, 131_072),
+        refuses(&[0xE880_2000], 6, 131_072),
+        accepts(&[mask, 0xE1D0_10B0], &[0, 1, 0, 0]),
+        accepts(&[mask, 0xE1D0_10D0], &[0, 1, 0, 0]),
+        accepts(&[mask, 0xE1D0_10F0], &[0, 1, 0, 0]),
+        refuses(&[mask, 0xE1C0_10D0], 4, 131_076),
+        refuses(&[mask, 0xE1C0_10F0], 4, 131_076),
+        refuses(&[0xE190_10B2], 4, 131_072),
+        refuses(&[0xE1DF_10B4], 5, 131_072),
+        refuses(&[mask, 0xE1D0_D0B0], 6, 131_076),
+        refuses(&[0xE0F0_10B2], 4, 131_072),
+        accepts(&[0xE310_0103, 0x01D0_10B0], &[0, 1, 0, 0]),
+        switched_off(refuses(&[0xE310_0103, 0x01D0_10B0], 7, 131_076)),
     ]
 }
 

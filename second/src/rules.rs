@@ -23,7 +23,7 @@ pub fn broken(region: &Region, code: &[Word; SLOTS], slot: usize, address: u32) 
             (needs_mask(reading) && !closed()).then_some(STACK)
         }
         Class::HalfMove | Class::Multiply => reading.names(1 << SP).then_some(STACK),
-        Class::Access => bad_access(region, *pair, reading, address),
+        Class::Access(_) => bad_access(region, *pair, reading, address),
         Class::RegisterBranch if reading.rm() == SP => Some(STACK),
         Class::RegisterBranch if pair.is_none() => Some(BRANCH_GUARD),
         Class::RegisterBranch | Class::Branch => bad_jump(region, slot, reading, address),
@@ -36,7 +36,7 @@ fn bad_access(region: &Region, pair: Option<Pair>, access: &Reading, address: u3
         Some(_) => true,
         None => !needs_guard(access),
     };
-    if access.loads() && access.rd() == SP {
+    if access.moves_stack() {
         Some(STACK)
     } else if !guarded {
         Some(ACCESS_GUARD)

@@ -1,4 +1,4 @@
-//! Reading one word: the paper's classes, and nothing of slots or pairs.
+//! Reading one word: the papers' classes, and nothing of slots or pairs.
 
 pub const NOP: u32 = 0xE320_F000;
 pub const SP: u32 = 13;
@@ -21,9 +21,20 @@ pub enum Class {
     HalfMove,
     Nop,
     Multiply,
-    Access,
+    Access(Access),
     Branch,
     RegisterBranch,
+}
+
+/// What an access moves.
+#[derive(Clone, Copy, Debug, PartialEq, Eq)]
+pub enum Access {
+    /// A word or a byte.
+    Word,
+    /// A halfword, or a signed byte or halfword.
+    Half,
+    /// A list of registers.
+    Multiple,
 }
 
 /// The reading of a word, or none where it is in no class.
@@ -32,13 +43,17 @@ pub fn read(word: u32) -> Option<Reading> {
         return None;
     }
     let class = match word >> 25 & 7 {
-        0b000 if bit(word, 7) && bit(word, 4) => is_multiply(word).then_some(Class::Multiply),
+        0b000 if bit(word, 7) && bit(word, 4) => match half_kind(word) {
+            0 => is_multiply(word).then_some(Class::Multiply),
+            _ => is_half_access(word).then_some(Class::Access(Access::Half)),
+        },
         0b000 if is_data(word) => Some(Class::Data),
         0b000 => is_register_branch(word).then_some(Class::RegisterBranch),
         0b001 if is_data(word) => Some(Class::Data),
         0b001 if word == NOP => Some(Class::Nop),
         0b001 => is_half_move(word).then_some(Class::HalfMove),
-        0b010 => is_access(word).then_some(Class::Access),
+        0b010 => is_single_access(word).then_some(Class::Access(Access::Word)),
+        0b100 => is_multiple(word).then_some(Class::Access(Access::Multiple)),
         0b101 => Some(Class::Branch),
         _ => None,
     };
@@ -60,20 +75,37 @@ fn is_half_move(word: u32) -> bool {
 }
 
 fn is_multiply(word: u32) -> bool {
-    let listed = match word >> 21 & 0x7F {
+    match word >> 21 & 0x7F {
         0 => field(word, 12) == 0,
         operation => operation == 1,
-    };
-    listed && field(word, 4) == 9
+    }
 }
 
-fn is_access(word: u32) -> bool {
+/// Bits 6..5: 0 among the multiplies, 1 a halfword, 2 a signed byte, 3 a signed
+/// halfword.
+fn half_kind(word: u32) -> u32 {
+    word >> 5 & 3
+}
+
+/// The distance must be immediate, and a store that of a halfword.
+fn is_half_access(word: u32) -> bool {
+    bit(word, 22) && (bit(word, 20) || half_kind(word) == 1) && is_single_access(word)
+}
+
+/// What P, W, Rn and Rt must keep to where one register moves.
+fn is_single_access(word: u32) -> bool {
     let (p, w) = (bit(word, 24), bit(word, 21));
     match (p, w) {
         (false, true) => false,
         (true, false) => true,
         _ => field(word, 16) != field(word, 12),
     }
+}
+
+fn is_multiple(word: u32) -> bool {
+    let list = word & 0xFFFF;
+    let into_base = bit(word, 21) && bit(list, field(word, 16));
+    !bit(word, 22) && list != 0 && !into_base
 }
 
 fn is_register_branch(word: u32) -> bool {
@@ -99,7 +131,7 @@ impl Reading {
         field(self.word, 16)
     }
 
-    /// Bits 15..12, for an access Rt.
+    /// Bits 15..12, for an access of one register Rt.
     pub fn rd(&self) -> u32 {
         field(self.word, 12)
     }
@@ -116,7 +148,7 @@ impl Reading {
     /// of registers, given as bits. A field that must be 0 may count as r0: no
     /// rule minds.
     pub fn names(&self, set: u32) -> bool {
-        let has = |register: u32| set >> register & 1 == 1;
+        let has = |register: u32| bit(set, register);
         match self.class {
             Class::Data if bit(self.word, 25) => has(self.rn()) || has(self.rd()),
             Class::Data => {
@@ -125,7 +157,9 @@ impl Reading {
             }
             Class::HalfMove => has(self.rd()),
             Class::Multiply => has(self.rn()) || has(self.rd()) || has(self.rs()) || has(self.rm()),
-            Class::Access => has(self.rd()) || has(self.rn()) && !self.is_literal_load(),
+            Class::Access(_) => {
+                self.moved() & set != 0 || has(self.rn()) && !self.is_literal_load()
+            }
             Class::RegisterBranch => has(self.rm()),
             Class::Nop | Class::Branch => false,
         }
@@ -162,14 +196,25 @@ impl Reading {
         (self.word & 0xFF).rotate_right(2 * field(self.word, 8))
     }
 
-    /// Whether an access loads.
-    pub fn loads(&self) -> bool {
-        bit(self.word, 20)
+    /// The registers an access loads or stores, as bits.
+    fn moved(&self) -> u32 {
+        match self.class {
+            Class::Access(Access::Multiple) => self.word & 0xFFFF,
+            _ => 1 << self.rd(),
+        }
     }
 
-    /// Whether an access is a literal load: Rn = 15, P = 1, B = W = 0, L = 1.
+    /// Whether an access loads r13, or has it in a list.
+    pub fn moves_stack(&self) -> bool {
+        let minds = bit(self.word, 20) || self.class == Class::Access(Access::Multiple);
+        minds && bit(self.moved(), SP)
+    }
+
+    /// Whether this is a literal load: a word's access with Rn = 15, P = 1,
+    /// B = W = 0, L = 1.
     pub fn is_literal_load(&self) -> bool {
-        self.class == Class::Access && self.rn() == PC && self.word >> 20 & 0b10111 == 0b10001
+        let is_word = self.class == Class::Access(Access::Word);
+        is_word && self.rn() == PC && self.word >> 20 & 0b10111 == 0b10001
     }
 
     /// Where a literal load at this address reads.

@@ -1,4 +1,5 @@
-//! Every statement of document 01's "Words from the bench".
+//! Every statement of document 01's "Words from the bench", and the words given
+//! for request 1 of document 02.
 
 mod common;
 

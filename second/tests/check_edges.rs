@@ -68,14 +68,13 @@ fn classes() {
         data(14, MOV, 0, 1, 2, 3),          // mov with Rn
         data(14, 15, 0, 1, 2, IMMEDIATE),   // mvn with Rn
         multiply(14, 0, 1, 2, 3) | 1 << 12, // multiply with bits 15..12
-        0xE000_00B0,                        // a halfword access
+        0xE000_00B0,                        // a halfword access by register
         0xE040_0090,                        // bits 27..21 = 2
         access(14, W | U, 13, 1, 0),        // P = 0 with W = 1
         access(14, U, 13, 13, 0),           // write-back into Rt
         access(14, P | W, 15, 15, 0),
         register_branch(14, false, 0) ^ 1 << 8,
         HEAD ^ 1 << 28,
-        0xE8BD_8000, // a multiple transfer
     ] {
         refuses(&[word], 4, START);
     }

@@ -100,12 +100,57 @@ more =
     ∷ patches (20 ∷ 0 ∷ 0 ∷ 0 ∷ []) 0 (N ∷ N ∷ N ∷ N ∷ []) (N ∷ N ∷ N ∷ N ∷ []) (refused 13) (20 ∷ 0 ∷ 0 ∷ 0 ∷ [])
     ∷ []
 
-words : (map computed marked ≡ map given marked) × (map computed more ≡ map given more)
+-- multiple transfers, then halfwords and signed bytes: the request's words, and three more. One stands alone, or behind a guard
+-- of r0
+abbrev alone : ℕ → Row
+alone w = checks true (w ∷ N ∷ N ∷ N ∷ []) accepted (0 ∷ 0 ∷ 0 ∷ 0 ∷ [])
+
+abbrev guarded : ℕ → Row
+guarded w = checks true (0xE3C0_0103 ∷ w ∷ N ∷ N ∷ []) accepted (0 ∷ 1 ∷ 0 ∷ 0 ∷ [])
+
+abbrev refusedAlone : ℕ → ℕ → Row
+refusedAlone w n = checks true (w ∷ N ∷ N ∷ N ∷ []) (refusedAt n 131072) kept
+
+abbrev refusedGuarded : ℕ → ℕ → Row
+refusedGuarded w n = checks true (0xE3C0_0103 ∷ w ∷ N ∷ N ∷ []) (refusedAt n 131076) kept
+
+abbrev pub transfers : List Row
+transfers =
+    alone 0xE92D_4010
+    ∷ alone 0xE8BD_4010
+    ∷ refusedAlone 0xE8BD_8010 5
+    ∷ guarded 0xE890_0006
+    ∷ refusedAlone 0xE890_0006 7
+    ∷ refusedAlone 0xE8A0_0001 4
+    ∷ refusedAlone 0xE890_0000 4
+    ∷ refusedAlone 0xE8D0_0006 4
+    ∷ refusedAlone 0xE89D_2001 6
+    ∷ refusedAlone 0xE8BD_2001 4
+    ∷ refusedAlone 0xE880_2000 6
+    ∷ guarded 0xE1D0_10B0
+    ∷ guarded 0xE1D0_10D0
+    ∷ guarded 0xE1D0_10F0
+    ∷ refusedGuarded 0xE1C0_10D0 4
+    ∷ refusedGuarded 0xE1C0_10F0 4
+    ∷ refusedAlone 0xE190_10B2 4
+    ∷ refusedAlone 0xE1DF_10B4 5
+    ∷ refusedGuarded 0xE1D0_D0B0 6
+    ∷ refusedAlone 0xE0F0_10B2 4
+    ∷ checks true (0xE310_0103 ∷ 0x01D0_10B0 ∷ N ∷ N ∷ []) accepted (0 ∷ 1 ∷ 0 ∷ 0 ∷ [])
+    ∷ refusedAlone 0xE99F_0001 5
+    ∷ guarded 0xE1C0_10B0
+    ∷ refusedGuarded 0xE1D0_90B0 5
+    ∷ []
+
+words : (map computed marked ≡ map given marked) × (map computed more ≡ map given more) × (map computed transfers ≡ map given transfers)
 unfolding headWord headReading literalReading readingsOf roleAlone roleAfter rolesOf rotated valueOf dataMaskValue branchMaskValue immediateIs isMask isDataMask isBranchMask isTest canBeGuarded maskGuards testGuards branchGuards closes isPair behind signedStep targetOf literalOf operandNames names baseOf branchRegister writesSp keepsFlags takesSp isCall isUnlisted isCompare isMove isData operandOf dataFields isHalfMove isNop isMultiply multiplyFields isAnyAccess isLiteralLoad isAccess accessFields isBranch isRegisterBranch kindOf readingOf sandboxEnd codeLimit layoutHolds lengthHolds rule4 rule5 rule6 wantsGuard rule7 rule8 rule9 literalHolds rule10 wordAtAddress landingOf inTrampolines landable rule11 rulesOf lowestFrom faultOf codeFault wordsVerdict checkVerdict entryOf ledgerOf sum firstFrom listFrom listOf wordAt bundleWords bundleAt readingAt beforeAt nextAt roleAt targetAt landingAt landings targetRole faultAt roleFrom standingFault all shapeHolds countsHold rolesAgree oldCounted countLess newFit strandedAt agrees strandedVerdict newWordsVerdict bundlesVerdict patchVerdict movedEntry movedLedger ledgerAfter
-words = (refl, refl)
+words = (refl, refl, refl)
 
 pub bench-words : map computed marked ≡ map given marked
 bench-words = words .0
 
 pub more-words : map computed more ≡ map given more
 more-words = words .1
+
+pub transfer-words : map computed transfers ≡ map given transfers
+transfer-words = words .2

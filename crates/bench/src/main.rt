@@ -1,6 +1,7 @@
-// The paper's words from the bench, run through the calls and, row by row, printed: what a call
-// answers, and the ledger where it accepts. The set that the paper marks is proved besides, as one
-// table over the definitions (proofs/Table.antt).
+// The paper's words from the bench, then those of multiple transfers and halfwords, run through the
+// calls and, row by row, printed: what a call answers, and the ledger where it accepts. The set that
+// the paper marks and the words of transfers are proved besides, as tables over the definitions
+// (proofs/Table.antt).
 use checker::check::check;
 use checker::patch::patch;
 use libc::STDOUT_FILENO;
@@ -185,6 +186,33 @@ fn literals() {
     two(0xEA00_0000, N, N);
 }
 
+fn multiple_transfers() {
+    bundle(0xE92D_4010, N, N, N);
+    bundle(0xE8BD_4010, N, N, N);
+    bundle(0xE8BD_8010, N, N, N);
+    bundle(0xE3C0_0103, 0xE890_0006, N, N);
+    bundle(0xE890_0006, N, N, N);
+    bundle(0xE8A0_0001, N, N, N);
+    bundle(0xE890_0000, N, N, N);
+    bundle(0xE8D0_0006, N, N, N);
+    bundle(0xE89D_2001, N, N, N);
+    bundle(0xE8BD_2001, N, N, N);
+    bundle(0xE880_2000, N, N, N);
+}
+
+fn halfwords() {
+    bundle(0xE3C0_0103, 0xE1D0_10B0, N, N);
+    bundle(0xE3C0_0103, 0xE1D0_10D0, N, N);
+    bundle(0xE3C0_0103, 0xE1D0_10F0, N, N);
+    bundle(0xE3C0_0103, 0xE1C0_10D0, N, N);
+    bundle(0xE3C0_0103, 0xE1C0_10F0, N, N);
+    bundle(0xE190_10B2, N, N, N);
+    bundle(0xE1DF_10B4, N, N, N);
+    bundle(0xE3C0_0103, 0xE1D0_D0B0, N, N);
+    bundle(0xE0F0_10B2, N, N, N);
+    bundle(0xE310_0103, 0x01D0_10B0, N, N);
+}
+
 // One bundle patched; the ledger afterwards.
 fn patched(ledger: [u32; 8], offset: usize, old: [u8; 16], new: [u8; 16]) -> [u32; 8] {
     let mut after = ledger;
@@ -216,6 +244,8 @@ fn main() {
     branches();
     heads();
     literals();
+    multiple_transfers();
+    halfwords();
     patches();
     length_0();
     length_15();

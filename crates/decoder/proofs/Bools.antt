@@ -11,6 +11,10 @@ pub either : (a b : Bool) → a || b ≡ true → (a ≡ true) ⊎ (b ≡ true)
 either true b e = inl refl
 either false b e = inr e
 
+pub or-false : (b : Bool) → b || false ≡ b
+or-false true = refl
+or-false false = refl
+
 pub implies : (a b : Bool) → not a || b ≡ true → a ≡ true → b ≡ true
 implies true b e t = e
 implies false b e t = absurd (false≢true t)

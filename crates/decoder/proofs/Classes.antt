@@ -12,7 +12,7 @@ use Rattle.decoder.specs.Bits.{bits}
 use Rattle.decoder.specs.Word.{conditionOf, operationOf, sOf, isCompare, isData, isHalfMove, isNop, isMultiply, isAnyAccess, isLiteralLoad, isAccess, isBranch, isRegisterBranch, kindOf}
 use Rattle.decoder.specs.Bundle.{headWord}
 use Rattle.decoder.specs.declared.reading.Kind.the-variants.{Unlisted}
-use Rattle.decoder.proofs.Says.{data-shape, data-compare, half-move-says, multiply-says, access-says, literal-load-says, register-branch-says}
+use Rattle.decoder.proofs.Says.{Family, of-word, of-halfword, of-registers, data-shape, data-compare, half-move-says, multiply-says, access-says, literal-load-says, register-branch-says}
 
 -- the classes, in the paper's order
 pub data Class : Type 0 where
@@ -34,10 +34,12 @@ which : ℕ → Class
 which w =
     cond (eqb (bits w 27 25) 5) of-branch
     (cond (eqb (bits w 27 25) 2) (cond (isLiteralLoad w) of-literal-load of-access)
+    (cond (eqb (bits w 27 25) 4) of-access
     (cond (eqb (bits w 27 25) 0 && eqb (bits w 7 4) 9) of-multiply
+    (cond (eqb (bits w 27 25) 0 && eqb (bits w 4 4) 1 && eqb (bits w 7 7) 1) of-access
     (cond (eqb (bits w 24 20) 18) (cond (eqb (bits w 27 25) 1) of-nop (cond (eqb w headWord) of-head of-register-branch))
     (cond (eqb (bits w 24 20) 16) of-half-move
-    (cond (eqb (bits w 24 20) 20) of-half-move of-data)))))
+    (cond (eqb (bits w 24 20) 20) of-half-move of-data)))))))
 
 -- a compare without S is no data word
 no-test : (w x : ℕ) → isData w ≡ true → isCompare x ≡ true → bits w 24 20 ≡ x + x → ⊥
@@ -49,12 +51,15 @@ no-test w x e c h =
     half : (w x : ℕ) → bits w 24 20 ≡ x + x → bits w 24 21 ≡ x
     half w x h = omega arith
 
--- nine has its top bit
-top-bit : (w : ℕ) → bits w 7 4 ≡ 9 → bits w 7 7 ≡ 0 → ⊥
-top-bit w k b = nine (w / 2 ^ 4) k (ap (λ (n : ℕ). n % 2) (shr-shr w 4 3) ∙ b)
+-- nine has its top bit and its lowest, and none between
+nine : (w : ℕ) → bits w 7 4 ≡ 9 → (bits w 7 7 ≡ 1) × (bits w 6 5 ≡ 0)
+nine w k = (ap (λ (n : ℕ). n % 2) (sym (shr-shr w 4 3)) ∙ top (w / 2 ^ 4) k, ap (λ (n : ℕ). n % 4) (sym (shr-shr w 4 1)) ∙ between (w / 2 ^ 4) k)
   where
-    nine : (q : ℕ) → q % 16 ≡ 9 → q / 8 % 2 ≡ 0 → ⊥
-    nine q k b = omega arith
+    top : (q : ℕ) → q % 16 ≡ 9 → q / 8 % 2 ≡ 1
+    top q k = omega arith
+
+    between : (q : ℕ) → q % 16 ≡ 9 → q / 2 % 4 ≡ 0
+    between q k = omega arith
 
 data-is : (w : ℕ) → isData w ≡ true → which w ≡ of-data
 unfolding which isCompare
@@ -65,8 +70,8 @@ data-is w e =
     ⊎-elim
     (λ (g : bits w 27 25 ≡ 1). simp (g, t8, t9, t10))
     (λ (h : (bits w 27 25 ≡ 0) × ((bits w 4 4 ≡ 0) ⊎ ((bits w 7 7 ≡ 0) × (bits w 4 4 ≡ 1)))).
-    let nine : eqb (bits w 7 4) 9 ≡ false = ne-eqb (bits w 7 4) 9 (λ k. ⊎-elim (λ b4. omega arith) (λ bs. top-bit w k (bs .0)) (h .1)) in
-    simp (h .0, nine, t8, t9, t10))
+    let low : eqb (bits w 7 4) 9 ≡ false = ne-eqb (bits w 7 4) 9 (λ k. ⊎-elim (λ b4. omega arith) (λ bs. let top = nine w k .0 in let b7 = bs .0 in omega arith) (h .1)) in
+    ⊎-elim (λ (b4 : bits w 4 4 ≡ 0). simp (h .0, low, b4, t8, t9, t10)) (λ (bs : (bits w 7 7 ≡ 0) × (bits w 4 4 ≡ 1)). simp (h .0, low, bs .0, bs .1, t8, t9, t10)) (h .1))
     (data-shape w e)
 
 half-move-is : (w : ℕ) → isHalfMove w ≡ true → which w ≡ of-half-move
@@ -90,7 +95,12 @@ multiply-is w e =
 
 access-is : (w : ℕ) → isAccess w ≡ true → which w ≡ of-access
 unfolding which
-access-is w e = let says = access-says w e in simp (says .0, not-true (isLiteralLoad w) (says .1))
+access-is w e = let says = access-says w e in by-family (says .0) (not-true (isLiteralLoad w) (says .1))
+  where
+    by-family : Family w → isLiteralLoad w ≡ false → which w ≡ of-access
+    by-family (of-word g) n = simp (g, n)
+    by-family (of-halfword p) n = simp (p .group, ne-eqb (bits w 7 4) 9 (λ k. p .part (nine w k .1)), p .bit7, p .bit4)
+    by-family (of-registers g k) n = simp g
 
 literal-load-is : (w : ℕ) → isLiteralLoad w ≡ true → which w ≡ of-literal-load
 unfolding which
@@ -104,10 +114,10 @@ register-branch-is : (w : ℕ) → isRegisterBranch w ≡ true → which w ≡ o
 unfolding which headWord
 register-branch-is w e =
     let says = far w (register-branch-says w e) in
-    simp (says .0, says .1, ne-eqb (bits w 7 4) 9 (says .2), ne-eqb w 0xE125_BE70 (says .3))
+    simp (says .0, says .1, ne-eqb (bits w 7 4) 9 (says .2), says .3, says .4, ne-eqb w 0xE125_BE70 (says .5))
   where
     far : (w : ℕ) → (bits w 27 4 ≡ 0x12_FFF1) ⊎ (bits w 27 4 ≡ 0x12_FFF3)
-        → (bits w 27 25 ≡ 0) × (bits w 24 20 ≡ 18) × (bits w 7 4 ≡ 9 → ⊥) × (w ≡ 0xE125_BE70 → ⊥)
+        → (bits w 27 25 ≡ 0) × (bits w 24 20 ≡ 18) × (bits w 7 4 ≡ 9 → ⊥) × (bits w 7 7 ≡ 0) × (bits w 4 4 ≡ 1) × (w ≡ 0xE125_BE70 → ⊥)
     far w h = ⊎-elim (λ (k : bits w 27 4 ≡ 0x12_FFF1). omega arith) (λ (k : bits w 27 4 ≡ 0x12_FFF3). omega arith) h
 
 head-is : (w : ℕ) → eqb w headWord ≡ true → which w ≡ of-head

@@ -5,6 +5,7 @@ pub mod Says
 pub mod Rebuilt
 pub mod Classes
 pub mod Taken
+pub mod Counted
 pub mod Bundles
 pub mod Unique
 pub mod Points

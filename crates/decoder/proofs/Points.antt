@@ -8,9 +8,10 @@ use Rattle.decoder.specs.Word.{isCompare, isMove, isData, operandOf, dat
 use Rattle.decoder.specs.Bundle.{headWord, headReading, literalReading, readingsOf, slotReading, blank}
 use Rattle.decoder.specs.Place.{behind, signedStep, targetOf, literalOf}
 use Rattle.decoder.specs.Immediate.{rotated, valueOf}
-use Rattle.decoder.specs.Question.{operandNames, names, baseOf, branchRegister, writesSp, keepsFlags, takesSp, isCall, isUnlisted}
+use Rattle.decoder.specs.Question.{operandNames, names, baseOf, branchRegister, writesSp, keepsFlags, takesSp, isCall, isUnlisted, namedBelow, transferBytes}
+use Rattle.decoder.specs.declared.reading.Moved.the-variants.{Halfword, Registers}
 use Rattle.decoder.specs.declared.reading.Kind.{Kind}
-use Rattle.decoder.specs.declared.reading.Kind.the-variants.{Unlisted, Nop, Multiply, Head, Literal}
+use Rattle.decoder.specs.declared.reading.Kind.the-variants.{Unlisted, Nop, Multiply, Access, Head, Literal}
 use Rattle.decoder.specs.declared.place.Place.the-variants.{Below, At}
 
 abbrev N : ℕ
@@ -27,6 +28,14 @@ pub record Points : Type 0 where
   -- word::read
   pub write-back-onto-itself : kindOf 0xE5B1_1004 ≡ Unlisted
   pub multiply-target : kindOf 0xE001_0392 ≡ Multiply (record { accumulate = 0; s = 0; target = 1; added = 0; rs = 3; rm = 2 })
+  pub halfword-distance : kindOf 0xE1D0_12B4 ≡ Access (record { p = 1; u = 1; w = 0; l = 1; rn = 0; moved = Halfword 1 1 36 })
+  pub signed-store : kindOf 0xE1C0_10D0 ≡ Unlisted
+  pub halfword-onto-itself : (kindOf 0xE0D0_00B2 ≡ Unlisted) × (kindOf 0xE0C0_00B2 ≡ Unlisted) × (kindOf 0xE1F0_00B2 ≡ Unlisted)
+  pub other-bits-7-to-4 : (kindOf 0xE1D0_1090 ≡ Unlisted) × (kindOf 0xE140_1030 ≡ Unlisted) × (kindOf 0xE140_10A0 ≡ Unlisted)
+  pub halfword-by-register : kindOf 0xE190_10B2 ≡ Unlisted
+  pub push : kindOf 0xE92D_4010 ≡ Access (record { p = 1; u = 0; w = 1; l = 0; rn = 13; moved = Registers 0x4010 })
+  pub base-in-its-list : (kindOf 0xE8A0_0001 ≡ Unlisted) × (isUnlisted (kindOf 0xE880_0001) ≡ false)
+  pub empty-list : kindOf 0xE890_0000 ≡ Unlisted
   -- bundle::readings
   pub no-head-in-slot-1 : (kindIn (N ∷ headWord ∷ N ∷ N ∷ []) 0 ≡ Nop) × (kindIn (N ∷ headWord ∷ N ∷ N ∷ []) 1 ≡ Unlisted)
   pub data-behind-a-head : (kindIn (headWord ∷ F ∷ F ∷ F ∷ []) 0 ≡ Head) × (kindIn (headWord ∷ F ∷ F ∷ F ∷ []) 3 ≡ Literal 0xFFF_FFFF)
@@ -45,6 +54,7 @@ pub record Points : Type 0 where
   -- question::names
   pub names-base : names 9 (kindOf 0xE589_1000) ≡ true
   pub names-rt : names 9 (kindOf 0xE580_9000) ≡ true
+  pub list-names-its-registers : (names 9 (kindOf 0xE890_0206) ≡ true) × (names 3 (kindOf 0xE890_0206) ≡ false)
   -- question::base
   pub base-of-store : baseOf (kindOf 0xE580_1000) ≡ 0
   pub base-of-load : baseOf (kindOf 0xE591_0000) ≡ 1
@@ -60,13 +70,19 @@ pub record Points : Type 0 where
   -- question::takes_sp
   pub store-of-sp : takesSp (kindOf 0xE580_D000) ≡ false
   pub load-of-sp : takesSp (kindOf 0xE590_D000) ≡ true
+  pub halfword-of-sp : (takesSp (kindOf 0xE1C0_D0B0) ≡ false) × (takesSp (kindOf 0xE1D0_D0B0) ≡ true)
+  pub list-store-of-sp : takesSp (kindOf 0xE880_2000) ≡ true
   -- question::is_call
   pub bx-no-call : isCall (kindOf 0xE12F_FF10) ≡ false
   pub blx-call : isCall (kindOf 0xE12F_FF30) ≡ true
   -- question::is_unlisted
   pub nop-listed : isUnlisted (kindOf N) ≡ false
   pub svc-unlisted : isUnlisted (kindOf 0xEF00_0000) ≡ true
+  -- question::transfer_bytes
+  pub two-registers-pushed : transferBytes (kindOf 0xE92D_4010) ≡ 8
+  pub sixteen-registers : transferBytes (kindOf 0xE89D_FFFF) ≡ 64
+  pub word-access-no-transfer : transferBytes (kindOf 0xE580_1000) ≡ 0
 
 pub points : Points
-unfolding kindOf isData isCompare isMove isHalfMove isNop isMultiply isAnyAccess isLiteralLoad isAccess isBranch isRegisterBranch dataFields operandOf multiplyFields accessFields readingOf headWord headReading literalReading readingsOf slotReading behind signedStep targetOf literalOf rotated valueOf operandNames names baseOf branchRegister writesSp keepsFlags takesSp isCall isUnlisted
+unfolding kindOf isData isCompare isMove isHalfMove isNop isMultiply isAnyAccess isLiteralLoad isAccess isBranch isRegisterBranch dataFields operandOf multiplyFields accessFields readingOf headWord headReading literalReading readingsOf slotReading behind signedStep targetOf literalOf rotated valueOf operandNames names baseOf branchRegister writesSp keepsFlags takesSp isCall isUnlisted namedBelow transferBytes
 points = search

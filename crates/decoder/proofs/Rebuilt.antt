@@ -14,10 +14,10 @@ use Rattle.decoder.specs.Bits.{bits}
 use Rattle.decoder.specs.Word.{conditionOf, isData, operandOf, dataFields, isHalfMove, halfMoveKind, isNop, isMultiply, multiplyFields, isLiteralLoad, literalLoadKind, isAccess, accessFields, isBranch, branchKind, isRegisterBranch, registerBranchKind, kindOf, readingOf}
 use Rattle.decoder.specs.Question.{isUnlisted}
 use Rattle.decoder.specs.Bundle.{headWord, headReading, literalReading}
-use Rattle.decoder.specs.parts.Rebuild.{groupOf, operandBits, kindBits, wordOf}
+use Rattle.decoder.specs.parts.Rebuild.{groupOf, operandBits, familyOf, bit22, movedBits, kindBits, wordOf}
 use Rattle.decoder.specs.declared.reading.Kind.the-variants.{Data, Nop, Multiply, Access}
 use Rattle.decoder.proofs.Bools.{by-test}
-use Rattle.decoder.proofs.Says.{data-shape, half-move-says, multiply-says, access-says, literal-load-says, register-branch-says}
+use Rattle.decoder.proofs.Says.{Family, of-word, of-halfword, of-registers, data-shape, half-move-says, multiply-says, access-says, literal-load-says, register-branch-says}
 
 -- ---- class by class
 
@@ -62,9 +62,20 @@ multiply-back w e =
     rw (head, mod-pow-add w 7 21, mod-pow-add w 1 20, mod-pow-add w 4 16, mod-pow-add w 4 12, mod-pow-add w 4 8, mod-pow-add w 4 4, says .1, div-one w)
 
 access-back : (w : ℕ) → isAccess w ≡ true → kindBits (Access (accessFields w)) ≡ w % 2 ^ 28
-unfolding kindBits accessFields
-access-back w e =
-    rw (mod-pow-add w 3 25, access-says w e .0, mod-pow-add w 1 24, mod-pow-add w 1 23, mod-pow-add w 1 22, mod-pow-add w 1 21, mod-pow-add w 1 20, mod-pow-add w 4 16, mod-pow-add w 4 12, div-one w)
+unfolding kindBits familyOf bit22 movedBits accessFields
+access-back w e = by-family (access-says w e .0)
+  where
+    by-family : Family w → kindBits (Access (accessFields w)) ≡ w % 2 ^ 28
+    by-family (of-word g) =
+        simp (eq-eqb _ _ g)
+        (rw (mod-pow-add w 3 25, g, mod-pow-add w 1 24, mod-pow-add w 1 23, mod-pow-add w 1 22, mod-pow-add w 1 21, mod-pow-add w 1 20, mod-pow-add w 4 16, mod-pow-add w 4 12, div-one w))
+    by-family (of-halfword p) =
+        let small : bits w 3 0 < 16 = omega arith in
+        simp (ne-eqb _ _ (λ (e : bits w 27 25 ≡ 2). let g = p .group in omega arith), eq-eqb _ _ (p .group))
+        (rw (digits-div (bits w 11 8) small, digits-mod (bits w 11 8) small, mod-pow-add w 3 25, p .group, mod-pow-add w 1 24, mod-pow-add w 1 23, mod-pow-add w 1 22, p .bit22, mod-pow-add w 1 21, mod-pow-add w 1 20, mod-pow-add w 4 16, mod-pow-add w 4 12, mod-pow-add w 4 8, mod-pow-add w 1 7, p .bit7, mod-pow-add w 2 5, mod-pow-add w 1 4, p .bit4, div-one w))
+    by-family (of-registers g k) =
+        simp (ne-eqb _ _ (λ (e : bits w 27 25 ≡ 2). omega arith), ne-eqb _ _ (λ (e : bits w 27 25 ≡ 0). omega arith))
+        (rw (mod-pow-add w 3 25, g, mod-pow-add w 1 24, mod-pow-add w 1 23, mod-pow-add w 1 22, k, mod-pow-add w 1 21, mod-pow-add w 1 20, mod-pow-add w 4 16, div-one w))
 
 literal-load-back : (w : ℕ) → isLiteralLoad w ≡ true → kindBits (literalLoadKind w) ≡ w % 2 ^ 28
 unfolding kindBits

@@ -3,10 +3,10 @@ use Prim.Native.Nat.{ℕ}
 use mathlib.Core.Path.{_≡_}
 use mathlib.Core.Logic.{_⊎_, inl, inr, ⊎-elim, ⊎-map}
 use mathlib.Core.Bool.{Bool, true, not, _&&_, _||_}
-use lib.Dec.{eqb}
-use borrow.Author.Tests.{eqb-true}
+use lib.Dec.{eqb, leb}
+use borrow.Author.Tests.{eqb-true, eqb-false, not-true}
 use Rattle.decoder.specs.Bits.{bits}
-use Rattle.decoder.specs.Word.{rnOf, rdOf, operationOf, sOf, dataShape, isCompare, isMove, isData, isHalfMove, isMultiply, isAnyAccess, isLiteralLoad, isAccess, isRegisterBranch}
+use Rattle.decoder.specs.Word.{rnOf, rdOf, operationOf, sOf, dataShape, isCompare, isMove, isData, isHalfMove, isMultiply, writeBackHolds, isWordOrByte, isHalfword, listNames, isMultipleTransfer, isAnyAccess, isLiteralLoad, isAccess, isRegisterBranch}
 use Rattle.decoder.proofs.Bools.{both, either, implies}
 
 -- two equations of a number, from a test of both
@@ -60,16 +60,62 @@ multiply-says w e =
       eqb-true _ _ (p .1),
     )
 
-pub any-access-says : (w : ℕ) → isAnyAccess w ≡ true → bits w 27 25 ≡ 2
-unfolding isAnyAccess
-any-access-says w e =
-    eqb-true _ _
-    (both (eqb (bits w 27 25) 2) (not (eqb (bits w 24 24) 0 && eqb (bits w 21 21) 1))
-    (both (eqb (bits w 27 25) 2 && not (eqb (bits w 24 24) 0 && eqb (bits w 21 21) 1)) (not ((eqb (bits w 24 24) 0 || eqb (bits w 21 21) 1) && eqb (rnOf w) (rdOf w))) e .0) .0)
+pub word-or-byte-says : (w : ℕ) → isWordOrByte w ≡ true → bits w 27 25 ≡ 2
+word-or-byte-says w e = eqb-true _ _ (both (eqb (bits w 27 25) 2) (writeBackHolds w) e .0)
 
-pub access-says : (w : ℕ) → isAccess w ≡ true → (bits w 27 25 ≡ 2) × (not (isLiteralLoad w) ≡ true)
-unfolding isAccess
-access-says w e = let p = both (isAnyAccess w) (not (isLiteralLoad w)) e in (any-access-says w (p .0), p .1)
+-- group, bit 22, bits 7, 4 and 6..5
+pub record IsHalfword (w : ℕ) : Type 0 where
+  pub group : bits w 27 25 ≡ 0
+  pub bit22 : bits w 22 22 ≡ 1
+  pub bit7 : bits w 7 7 ≡ 1
+  pub bit4 : bits w 4 4 ≡ 1
+  pub part : bits w 6 5 ≡ 0 → ⊥
+
+pub halfword-says : (w : ℕ) → isHalfword w ≡ true → IsHalfword w
+halfword-says w e =
+    let g = eqb (bits w 27 25) 0 in
+    let k = eqb (bits w 22 22) 1 in
+    let h = eqb (bits w 7 7) 1 in
+    let l = eqb (bits w 4 4) 1 in
+    let n = not (eqb (bits w 6 5) 0) in
+    let s = not (eqb (bits w 20 20) 0 && leb 2 (bits w 6 5)) in
+    let e1 = both (g && k && h && l && n) s (both (g && k && h && l && n && s) (writeBackHolds w) e .0) in
+    let e2 = both (g && k && h && l) n (e1 .0) in
+    let e3 = both (g && k && h) l (e2 .0) in
+    let e4 = both (g && k) h (e3 .0) in
+    let e5 = both g k (e4 .0) in
+    record {
+      group = eqb-true _ _ (e5 .0);
+      bit22 = eqb-true _ _ (e5 .1);
+      bit7 = eqb-true _ _ (e4 .1);
+      bit4 = eqb-true _ _ (e3 .1);
+      part = eqb-false _ _ (not-true _ (e2 .1));
+    }
+
+pub multiple-transfer-says : (w : ℕ) → isMultipleTransfer w ≡ true → (bits w 27 25 ≡ 4) × (bits w 22 22 ≡ 0)
+multiple-transfer-says w e =
+    let g = eqb (bits w 27 25) 4 in
+    let k = eqb (bits w 22 22) 0 in
+    let n = not (eqb (bits w 15 0) 0) in
+    let p = both g k (both (g && k) n (both (g && k && n) (not (eqb (bits w 21 21) 1 && listNames (rnOf w) (bits w 15 0))) e .0) .0) in
+    (eqb-true _ _ (p .0), eqb-true _ _ (p .1))
+
+-- what an access that is no literal load moves says of the word
+pub data Family (w : ℕ) : Type 0 where
+  of-word : bits w 27 25 ≡ 2 → Family w
+  of-halfword : IsHalfword w → Family w
+  of-registers : bits w 27 25 ≡ 4 → bits w 22 22 ≡ 0 → Family w
+
+pub access-says : (w : ℕ) → isAccess w ≡ true → Family w × (not (isLiteralLoad w) ≡ true)
+unfolding isAccess isAnyAccess
+access-says w e =
+    let p = both (isAnyAccess w) (not (isLiteralLoad w)) e in (
+      ⊎-elim
+          (λ t. ⊎-elim (λ t. of-word (word-or-byte-says w t)) (λ t. of-halfword (halfword-says w t)) (either (isWordOrByte w) (isHalfword w) t))
+          (λ t. let m = multiple-transfer-says w t in of-registers (m .0) (m .1))
+          (either (isWordOrByte w || isHalfword w) (isMultipleTransfer w) (p .0)),
+      p .1,
+    )
 
 -- group, Rn, P, B, W, L
 pub record Literally (w : ℕ) : Type 0 where
@@ -83,7 +129,7 @@ pub record Literally (w : ℕ) : Type 0 where
 pub literal-load-says : (w : ℕ) → isLiteralLoad w ≡ true → Literally w
 unfolding isLiteralLoad
 literal-load-says w e =
-    let a = isAnyAccess w in
+    let a = isWordOrByte w in
     let n = eqb (rnOf w) 15 in
     let p = eqb (bits w 24 24) 1 in
     let b = eqb (bits w 22 22) 0 in
@@ -95,7 +141,7 @@ literal-load-says w e =
     let e4 = both (a && n) p (e3 .0) in
     let e5 = both a n (e4 .0) in
     record {
-      group = any-access-says w (e5 .0);
+      group = word-or-byte-says w (e5 .0);
       rn = eqb-true _ _ (e5 .1);
       p = eqb-true _ _ (e4 .1);
       b = eqb-true _ _ (e3 .1);

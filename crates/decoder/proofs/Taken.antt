@@ -1,18 +1,18 @@
 -- The class that takes a word says its kind, and a word that none takes is unlisted, whatever order the classes are asked in.
-use Prim.Native.Nat.{ℕ}
+use Prim.Native.Nat.{ℕ, _≤_, _<_}
+use native.Mathlib.Nat.{not-le-of-lt}
 use native.Mathlib.Omega.{arith}
 use mathlib.Core.Path.{_≡_, _∙_, refl, sym, ap}
 use mathlib.Core.Logic.{⊎-elim}
 use mathlib.Core.Bool.{Bool, true, false, true≢false}
-use lib.Dec.{eqb, leb}
-use borrow.Author.Tests.{eqb-true, eq-eqb, le-leb}
+use lib.Dec.{eqb, lit≤}
+use borrow.Author.Tests.{eqb-true, eq-eqb}
 use Rattle.decoder.specs.Bits.{bits}
-use Rattle.decoder.specs.Word.{conditionOf, isData, dataFields, isHalfMove, halfMoveKind, isNop, isMultiply, multiplyFields, isAnyAccess, isLiteralLoad, literalLoadKind, isAccess, accessFields, isBranch, branchKind, isRegisterBranch, registerBranchKind, kindOf}
-use Rattle.decoder.specs.Bundle.{headWord}
+use Rattle.decoder.specs.Word.{conditionOf, isData, dataFields, isHalfMove, halfMoveKind, isNop, isMultiply, multiplyFields, isWordOrByte, isAnyAccess, isLiteralLoad, literalLoadKind, isAccess, accessFields, isBranch, branchKind, isRegisterBranch, registerBranchKind, kindOf}
 use Rattle.decoder.specs.declared.reading.Kind.{Kind}
 use Rattle.decoder.specs.declared.reading.Kind.the-variants.{Unlisted, Data, Nop, Multiply, Access}
 use Rattle.decoder.proofs.Bools.{by-test}
-use Rattle.decoder.proofs.Says.{data-shape, half-move-says, multiply-says, access-says, literal-load-says, register-branch-says}
+use Rattle.decoder.proofs.Says.{data-shape, half-move-says, multiply-says, register-branch-says}
 use Rattle.decoder.proofs.Classes.{Class, of-data, of-half-move, of-nop, of-multiply, of-access, of-literal-load, of-branch, of-register-branch, of-head, takes, one-class}
 
 -- the kind of a class's words; a head read by itself has none
@@ -55,53 +55,47 @@ kind-taken of-branch w k e = let free = other w of-branch e in simp (k, free of-
 kind-taken of-register-branch w k e = let free = other w of-register-branch e in simp (k, free of-data refl, free of-half-move refl, free of-nop refl, free of-multiply refl, free of-literal-load refl, free of-access refl, free of-branch refl, e)
 kind-taken of-head w k e = let free = other w of-head e in simp (k, free of-data refl, free of-half-move refl, free of-nop refl, free of-multiply refl, free of-literal-load refl, free of-access refl, free of-branch refl, free of-register-branch refl)
 
--- the values of bits 27..25 that a class's words have
-abbrev pub inGroup : Class → ℕ → Bool
-inGroup of-data g = leb g 1
-inGroup of-half-move g = leb g 1
-inGroup of-nop g = leb g 1
-inGroup of-multiply g = leb g 1
-inGroup of-access g = eqb g 2
-inGroup of-literal-load g = eqb g 2
-inGroup of-branch g = eqb g 5
-inGroup of-register-branch g = leb g 1
-inGroup of-head g = leb g 1
-
-in-group : (c : Class) (w : ℕ) → takes c w ≡ true → inGroup c (bits w 27 25) ≡ true
-unfolding isNop isBranch headWord
-in-group of-data w e = le-leb (bits w 27 25) 1 (⊎-elim (λ g. omega arith) (λ h. let g = h .0 in omega arith) (data-shape w e))
-in-group of-half-move w e = le-leb (bits w 27 25) 1 (⊎-elim (λ h. omega arith) (λ h. omega arith) (half-move-says w e))
-in-group of-nop w e = rw (eqb-true w 0xE320_F000 e)
-in-group of-multiply w e = le-leb (bits w 27 25) 1 (⊎-elim (λ h. omega arith) (λ h. omega arith) (multiply-says w e .0))
-in-group of-access w e = eq-eqb (bits w 27 25) 2 (access-says w e .0)
-in-group of-literal-load w e = eq-eqb (bits w 27 25) 2 (literal-load-says w e .group)
-in-group of-branch w e = e
-in-group of-register-branch w e = le-leb (bits w 27 25) 1 (⊎-elim (λ h. omega arith) (λ h. omega arith) (register-branch-says w e))
-in-group of-head w e = rw (eqb-true w 0xE125_BE70 e)
-
--- a class takes no word outside its groups
-pub out-of-group : (c : Class) (w : ℕ) → inGroup c (bits w 27 25) ≡ false → takes c w ≡ false
-out-of-group c w out = by-test (takes c w) (λ t. absurd (true≢false (sym (in-group c w t) ∙ out))) (λ f. f)
-
 -- a word that no class takes
 pub record Untaken (w : ℕ) : Type 0 where
   pub data′ : isData w ≡ false
   pub half-move : isHalfMove w ≡ false
   pub nop : isNop w ≡ false
   pub multiply : isMultiply w ≡ false
-  pub literal-load : isLiteralLoad w ≡ false
-  pub access : isAccess w ≡ false
+  pub any-access : isAnyAccess w ≡ false
   pub branch : isBranch w ≡ false
   pub register-branch : isRegisterBranch w ≡ false
 
+no-literal-load : (w : ℕ) → isAnyAccess w ≡ false → isLiteralLoad w ≡ false
+unfolding isAnyAccess isLiteralLoad
+no-literal-load w e = by-test (isWordOrByte w) (λ t. absurd (true≢false (simp t at e))) (λ f. simp f)
+
+no-access : (w : ℕ) → isAnyAccess w ≡ false → isAccess w ≡ false
+unfolding isAccess
+no-access w e = simp e
+
+-- with other bits 27..25 than 0, 1 and 5 only accesses are in a class
+pub untaken-above : (w : ℕ) → 1 < bits w 27 25 → eqb (bits w 27 25) 5 ≡ false → isAnyAccess w ≡ false → Untaken w
+unfolding isNop isBranch
+untaken-above w high five none =
+    record {
+      data′ = above (isData w) (λ e. ⊎-elim (λ g. omega arith) (λ h. let g = h .0 in omega arith) (data-shape w e));
+      half-move = above (isHalfMove w) (λ e. ⊎-elim (λ h. omega arith) (λ h. omega arith) (half-move-says w e));
+      nop = above (isNop w) (λ e. rw (eqb-true w 0xE320_F000 e) (lit≤ tt));
+      multiply = above (isMultiply w) (λ e. ⊎-elim (λ h. omega arith) (λ h. omega arith) (multiply-says w e .0));
+      any-access = none;
+      branch = five;
+      register-branch = above (isRegisterBranch w) (λ e. ⊎-elim (λ h. omega arith) (λ h. omega arith) (register-branch-says w e));
+    }
+  where
+    above : (b : Bool) → (b ≡ true → bits w 27 25 ≤ 1) → b ≡ false
+    above b low = by-test b (λ t. absurd (not-le-of-lt high (low t))) (λ f. f)
+
 pub kind-untaken : (w : ℕ) → eqb (conditionOf w) 15 ≡ false → Untaken w → kindOf w ≡ Unlisted
 unfolding kindOf
-kind-untaken w k u = simp (k, u .data′, u .half-move, u .nop, u .multiply, u .literal-load, u .access, u .branch, u .register-branch)
+kind-untaken w k u =
+    simp (k, u .data′, u .half-move, u .nop, u .multiply, no-literal-load w (u .any-access), no-access w (u .any-access), u .branch, u .register-branch)
 
+-- an access that is no literal load
 pub access-taken : (w : ℕ) → isAnyAccess w ≡ true → isLiteralLoad w ≡ false → isAccess w ≡ true
 unfolding isAccess
 access-taken w a l = simp (a, l)
-
-pub no-access : (w : ℕ) → isAnyAccess w ≡ false → (isLiteralLoad w ≡ false) × (isAccess w ≡ false)
-unfolding isAccess isLiteralLoad
-no-access w a = (simp a, simp a)

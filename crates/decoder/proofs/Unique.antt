@@ -32,6 +32,8 @@ use Rattle.decoder.proofs.question.is_call.Kinds as is-call-kinds
 use Rattle.decoder.proofs.question.is_call.Reads as is-call
 use Rattle.decoder.proofs.question.is_unlisted.Kinds as is-unlisted-kinds
 use Rattle.decoder.proofs.question.is_unlisted.Reads as is-unlisted
+use Rattle.decoder.proofs.question.transfer_bytes.Kinds as transfer-bytes-kinds
+use Rattle.decoder.proofs.question.transfer_bytes.Reads as transfer-bytes
 
 abbrev pub Unique : (ps : List (PK 0)) (r : RK 0) → Out 0 ps r → Type 0
 Unique ps r promise =
@@ -78,3 +80,6 @@ is-call-unique a u v x y p q = p ∙ sym q
 
 pub is-unlisted-unique : Unique is-unlisted-kinds.ps is-unlisted-kinds.r is-unlisted.Post
 is-unlisted-unique a u v x y p q = p ∙ sym q
+
+pub transfer-bytes-unique : Unique transfer-bytes-kinds.ps transfer-bytes-kinds.r transfer-bytes.Post
+transfer-bytes-unique a u v x y p q = p ∙ sym q

@@ -1,13 +1,15 @@
--- What the rules ask of a reading. They look at the answers and never at the kind, so a new class answers here and leaves the
+-- What is asked of a reading. The rules look at the answers and never at the kind, so a new class answers here and leaves the
 -- rules alone. 16 stands for no register.
-use Prim.Native.Nat.{ℕ}
-use mathlib.Core.Bool.{Bool, true, false, not, _&&_, _||_}
+use Prim.Native.Nat.{ℕ, zero, suc, _+_, _*_}
+use mathlib.Core.Bool.{Bool, true, false, not, _&&_, _||_, cond}
 use lib.Dec.{eqb}
-use Rattle.decoder.specs.Word.{isCompare, isMove}
+use Rattle.decoder.specs.Word.{isCompare, isMove, listNames}
 use Rattle.decoder.specs.Kinds.{ofData, ofAccess, ofRegisterBranch}
 use Rattle.decoder.specs.declared.reading.Operand.{Operand}
 use Rattle.decoder.specs.declared.reading.Operand.the-variants.{Immediate, Shifted, ShiftedByRs}
 use Rattle.decoder.specs.declared.reading.DataFields.{DataFields}
+use Rattle.decoder.specs.declared.reading.Moved.{Moved}
+use Rattle.decoder.specs.declared.reading.Moved.the-variants.{Word, Halfword, Registers}
 use Rattle.decoder.specs.declared.reading.MultiplyFields.{MultiplyFields}
 use Rattle.decoder.specs.declared.reading.Kind.{Kind}
 use Rattle.decoder.specs.declared.reading.Kind.the-variants.{Unlisted, Data, HalfMove, Nop, Multiply, Access, LiteralLoad, Branch, RegisterBranch, Head, Literal}
@@ -22,7 +24,13 @@ operandNames r (ShiftedByRs shift rs rm) = eqb rm r || eqb rs r
 abbrev pub multiplyNames : ℕ → MultiplyFields → Bool
 multiplyNames r f = eqb (f .target) r || eqb (f .rs) r || eqb (f .rm) r || (eqb (f .accumulate) 1 && eqb (f .added) r)
 
--- a register field of the word is r. A compare's Rd and a move's Rn are no registers; a literal load's base is left out,
+-- Rt, or each register of the list
+abbrev pub movedNames : ℕ → Moved → Bool
+movedNames r (Word b rt distance) = eqb rt r
+movedNames r (Halfword part rt distance) = eqb rt r
+movedNames r (Registers list) = listNames r list
+
+-- a register field of the word is r, or its list names r. A compare's Rd and a move's Rn are no registers; a literal load's base is left out,
 -- since no rule is about it
 unfoldable pub names : ℕ → Kind → Bool
 unfolding operandNames
@@ -32,7 +40,7 @@ names r (Data f) =
     || operandNames r (f .operand)
 names r (HalfMove top rd number) = eqb rd r
 names r (Multiply f) = multiplyNames r f
-names r (Access f) = eqb (f .rn) r || eqb (f .rt) r
+names r (Access f) = eqb (f .rn) r || movedNames r (f .moved)
 names r (LiteralLoad u rt distance) = eqb rt r
 names r (RegisterBranch call rm) = eqb rm r
 names r Unlisted = false
@@ -60,11 +68,18 @@ writesSp k = ofData spWritten false k
 unfoldable pub keepsFlags : Kind → Bool
 keepsFlags k = ofData (λ f. eqb (f .s) 0) false k
 
--- r13 is written by a load, its base write-back apart, or by a half move; or named by a multiply or register branch
+-- the list, empty where one register is moved
+abbrev pub registerList : Moved → ℕ
+registerList (Word b rt distance) = 0
+registerList (Halfword part rt distance) = 0
+registerList (Registers list) = list
+
+-- r13 is written by a load, its base write-back apart, or by a half move; or named by a multiply, a register branch or a list, a
+-- store's too
 unfoldable pub takesSp : Kind → Bool
 takesSp (HalfMove top rd number) = eqb rd 13
 takesSp (Multiply f) = multiplyNames 13 f
-takesSp (Access f) = eqb (f .l) 1 && eqb (f .rt) 13
+takesSp (Access f) = (eqb (f .l) 1 && movedNames 13 (f .moved)) || listNames 13 (registerList (f .moved))
 takesSp (LiteralLoad u rt distance) = eqb rt 13
 takesSp (RegisterBranch call rm) = eqb rm 13
 takesSp (Data f) = false
@@ -101,3 +116,13 @@ isUnlisted (Branch call offset) = false
 isUnlisted (RegisterBranch call rm) = false
 isUnlisted Head = false
 isUnlisted (Literal low) = false
+
+-- how many of the registers below n a list names
+unfoldable pub namedBelow : ℕ → ℕ → ℕ
+namedBelow zero list = 0
+namedBelow (suc r) list = cond (listNames r list) 1 0 + namedBelow r list
+
+-- the bytes that a multiple transfer moves: four times the number of registers named in its sixteen-bit list; 0 of every other
+-- kind
+unfoldable pub transferBytes : Kind → ℕ
+transferBytes k = ofAccess (λ f. 4 * namedBelow 16 (registerList (f .moved))) 0 k

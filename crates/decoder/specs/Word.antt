@@ -1,13 +1,15 @@
 -- "Word classes": the condition, each class with its exclusions, and a word's reading. A class is a yes or no of a word; the
 -- reading of a word is its condition and the kind of the one class that takes it, with every field of that class.
-use Prim.Native.Nat.{ℕ, _+_, _*_}
+use Prim.Native.Nat.{ℕ, _+_, _*_, _/_, _%_, _^_}
 use mathlib.Core.Bool.{Bool, not, _&&_, _||_, cond}
-use lib.Dec.{eqb, leb}
+use lib.Dec.{eqb, leb, ltb}
 use Rattle.decoder.specs.Bits.{bits}
 use Rattle.decoder.specs.declared.reading.Operand.{Operand}
 use Rattle.decoder.specs.declared.reading.Operand.the-variants.{Immediate, Shifted, ShiftedByRs}
 use Rattle.decoder.specs.declared.reading.DataFields.{DataFields}
 use Rattle.decoder.specs.declared.reading.MultiplyFields.{MultiplyFields}
+use Rattle.decoder.specs.declared.reading.Moved.{Moved}
+use Rattle.decoder.specs.declared.reading.Moved.the-variants.{Word, Halfword, Registers}
 use Rattle.decoder.specs.declared.reading.AccessFields.{AccessFields}
 use Rattle.decoder.specs.declared.reading.Kind.{Kind}
 use Rattle.decoder.specs.declared.reading.Kind.the-variants.{Unlisted, Data, HalfMove, Nop, Multiply, Access, LiteralLoad, Branch, RegisterBranch}
@@ -92,37 +94,68 @@ multiplyFields w =
 
 -- ---- Access: 27..25 = 010; P, U, B, W, L are bits 24..20; distance is 11..0
 
--- P = 0 with W = 1 is no class. P = 0 or W = 1 writes Rn back, and then Rn = Rt is no class
-unfoldable pub isAnyAccess : ℕ → Bool
-isAnyAccess w =
-    eqb (bits w 27 25) 2
-    && not (eqb (bits w 24 24) 0 && eqb (bits w 21 21) 1)
+-- of an access of one register: P = 0 with W = 1 is no class. P = 0 or W = 1 writes Rn back, and then Rn = Rt is no class
+abbrev pub writeBackHolds : ℕ → Bool
+writeBackHolds w =
+    not (eqb (bits w 24 24) 0 && eqb (bits w 21 21) 1)
     && not ((eqb (bits w 24 24) 0 || eqb (bits w 21 21) 1) && eqb (rnOf w) (rdOf w))
 
--- ---- Literal load: an access with Rn = 15, P = 1, B = 0, W = 0, L = 1
+abbrev pub isWordOrByte : ℕ → Bool
+isWordOrByte w = eqb (bits w 27 25) 2 && writeBackHolds w
+
+-- ---- Literal load: an access with Rn = 15, P = 1, B = 0, W = 0, L = 1. None of those below is one
 unfoldable pub isLiteralLoad : ℕ → Bool
 isLiteralLoad w =
-    isAnyAccess w && eqb (rnOf w) 15 && eqb (bits w 24 24) 1 && eqb (bits w 22 22) 0 && eqb (bits w 21 21) 0 && eqb (bits w 20 20) 1
+    isWordOrByte w && eqb (rnOf w) 15 && eqb (bits w 24 24) 1 && eqb (bits w 22 22) 0 && eqb (bits w 21 21) 0 && eqb (bits w 20 20) 1
+
+abbrev pub literalLoadKind : ℕ → Kind
+literalLoadKind w = LiteralLoad (bits w 23 23) (rdOf w) (bits w 11 0)
+
+-- ---- Halfword, signed byte, signed halfword: 27..25 = 000, bit 22 = 1, bits 7 and 4 = 1, bits 6..5 not 0. A store with bits
+-- 6..5 of 2 or 3 is no class
+abbrev pub isHalfword : ℕ → Bool
+isHalfword w =
+    eqb (bits w 27 25) 0
+    && eqb (bits w 22 22) 1
+    && eqb (bits w 7 7) 1
+    && eqb (bits w 4 4) 1
+    && not (eqb (bits w 6 5) 0)
+    && not (eqb (bits w 20 20) 0 && leb 2 (bits w 6 5))
+    && writeBackHolds w
+
+-- ---- Multiple transfer: 27..25 = 100, bit 22 = 0; its list is bits 15..0
+
+-- a list names r: r is one of sixteen registers, and the list's bit r is set
+abbrev pub listNames : ℕ → ℕ → Bool
+listNames r list = ltb r 16 && eqb (list / 2 ^ r % 2) 1
+
+-- An empty list, or write-back (by bit 21 alone) with the base in the list, is no class
+abbrev pub isMultipleTransfer : ℕ → Bool
+isMultipleTransfer w =
+    eqb (bits w 27 25) 4
+    && eqb (bits w 22 22) 0
+    && not (eqb (bits w 15 0) 0)
+    && not (eqb (bits w 21 21) 1 && listNames (rnOf w) (bits w 15 0))
+
+-- ---- All accesses
+unfoldable pub isAnyAccess : ℕ → Bool
+isAnyAccess w = isWordOrByte w || isHalfword w || isMultipleTransfer w
 
 -- a literal load is read as one, and every other access as an access
 unfoldable pub isAccess : ℕ → Bool
 isAccess w = isAnyAccess w && not (isLiteralLoad w)
 
+-- what an access moves. A halfword's distance is bits 11..8 and 3..0
+abbrev pub movedOf : ℕ → Moved
+movedOf w =
+    cond (eqb (bits w 27 25) 2) (Word (bits w 22 22) (rdOf w) (bits w 11 0))
+    (cond (eqb (bits w 27 25) 0) (Halfword (bits w 6 5) (rdOf w) (bits w 11 8 * 16 + bits w 3 0))
+    (Registers (bits w 15 0)))
+
+-- P, U, W, L and Rn of all accesses, and what is moved
 unfoldable pub accessFields : ℕ → AccessFields
 accessFields w =
-    record {
-      p = bits w 24 24;
-      u = bits w 23 23;
-      b = bits w 22 22;
-      w = bits w 21 21;
-      l = bits w 20 20;
-      rn = rnOf w;
-      rt = rdOf w;
-      distance = bits w 11 0;
-    }
-
-abbrev pub literalLoadKind : ℕ → Kind
-literalLoadKind w = LiteralLoad (bits w 23 23) (rdOf w) (bits w 11 0)
+    record { p = bits w 24 24; u = bits w 23 23; w = bits w 21 21; l = bits w 20 20; rn = rnOf w; moved = movedOf w }
 
 -- ---- Branch: 27..25 = 101, bit 24 means call
 unfoldable pub isBranch : ℕ → Bool

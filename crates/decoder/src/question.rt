@@ -1,11 +1,13 @@
-// What the rules ask of a reading's kind. They look at the answers and never at the kind.
+// What is asked of a reading's kind. The rules look at the answers and never at the kind.
+use crate::access::list_names;
 use crate::reading::Kind;
+use crate::reading::Moved;
 use crate::reading::MultiplyFields;
 use crate::reading::Operand;
 use crate::word::is_compare;
 use crate::word::is_move;
 ghost use mathlib.Core.Path.{_≡_};
-ghost use Rattle.decoder.specs.Question.{operandNames, multiplyNames, names as «names-r», baseOf, branchRegister, writesSp, keepsFlags, takesSp, isCall, isUnlisted};
+ghost use Rattle.decoder.specs.Question.{operandNames, multiplyNames, movedNames, registerList, names as «names-r», baseOf, branchRegister, writesSp, keepsFlags, takesSp, isCall, isUnlisted, transferBytes};
 
 // Stands for no register.
 pub const NO_REGISTER: u32 = 16;
@@ -38,6 +40,43 @@ fn multiply_names(r: u32, fields: MultiplyFields) -> bool
         | ((fields.accumulate == 1) & (fields.added == r))
 }
 
+fn moved_names(r: u32, moved: Moved) -> bool
+    ensures { λ b. ⌜ b ≡ movedNames r moved ⌝ }
+{
+    match moved {
+        Moved::Word {
+            b: _,
+            rt,
+            distance: _,
+        } => rt == r,
+        Moved::Halfword {
+            part: _,
+            rt,
+            distance: _,
+        } => rt == r,
+        Moved::Registers { list } => list_names(r, list),
+    }
+}
+
+// The list, empty where one register is moved.
+fn register_list(moved: Moved) -> u32
+    ensures { λ list. ⌜ list ≡ registerList moved ⌝ }
+{
+    match moved {
+        Moved::Word {
+            b: _,
+            rt: _,
+            distance: _,
+        } => 0,
+        Moved::Halfword {
+            part: _,
+            rt: _,
+            distance: _,
+        } => 0,
+        Moved::Registers { list } => list,
+    }
+}
+
 // A register field of the word is r; a literal load's base is left out.
 pub fn names(r: u32, kind: Kind) -> bool
     ensures { λ b. ⌜ b ≡ «names-r» r kind ⌝ }
@@ -55,7 +94,10 @@ pub fn names(r: u32, kind: Kind) -> bool
             number: _,
         } => rd == r,
         Kind::Multiply(fields) => multiply_names(r, fields),
-        Kind::Access(fields) => (fields.rn == r) | (fields.rt == r),
+        Kind::Access(fields) => {
+            let moved = fields.moved;
+            (fields.rn == r) | moved_names(r, moved)
+        }
         Kind::LiteralLoad {
             u: _,
             rt,
@@ -106,7 +148,8 @@ pub fn keeps_flags(kind: Kind) -> bool
     fields.s == 0
 }
 
-// r13 is written by a load or a half move, or named by a multiply or a register branch.
+// r13 is written by a load or a half move, or named by a list, also to store, a multiply or a
+// register branch.
 pub fn takes_sp(kind: Kind) -> bool
     ensures { λ b. ⌜ b ≡ takesSp kind ⌝ }
 {
@@ -117,7 +160,10 @@ pub fn takes_sp(kind: Kind) -> bool
             number: _,
         } => rd == SP,
         Kind::Multiply(fields) => multiply_names(SP, fields),
-        Kind::Access(fields) => (fields.l == 1) & (fields.rt == SP),
+        Kind::Access(fields) => {
+            let moved = fields.moved;
+            ((fields.l == 1) & moved_names(SP, moved)) | list_names(SP, register_list(moved))
+        }
         Kind::LiteralLoad {
             u: _,
             rt,
@@ -147,4 +193,15 @@ pub fn is_unlisted(kind: Kind) -> bool
         Kind::Unlisted => true,
         _ => false,
     }
+}
+
+// The bytes that a multiple transfer moves, and 0 of every other kind.
+pub fn transfer_bytes(kind: Kind) -> u32
+    ensures { λ n. ⌜ n ≡ transferBytes kind ⌝ }
+{
+    let Kind::Access(fields) = kind else {
+        return 0;
+    };
+    let moved = fields.moved;
+    4 * u32::count_ones(register_list(moved) % 0x1_0000)
 }

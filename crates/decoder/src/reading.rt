@@ -30,15 +30,25 @@ pub struct MultiplyFields {
     pub rm: u32,
 }
 
+// What an access moves.
+pub enum Moved {
+    // A word, or a byte where b is 1.
+    Word { b: u32, rt: u32, distance: u32 },
+    // A halfword where part, bits 6..5, is 1; a signed byte where it is 2, a signed halfword where 3.
+    Halfword { part: u32, rt: u32, distance: u32 },
+    // A word for each register whose bit of the list is set.
+    Registers { list: u32 },
+}
+
+// What all accesses have, and what is moved. W writes the base back; so does P = 0, but of a list, where
+// P only says whether a step comes before each word or after it.
 pub struct AccessFields {
     pub p: u32,
     pub u: u32,
-    pub b: u32,
     pub w: u32,
     pub l: u32,
     pub rn: u32,
-    pub rt: u32,
-    pub distance: u32,
+    pub moved: Moved,
 }
 
 pub enum Kind {

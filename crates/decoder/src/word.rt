@@ -1,5 +1,6 @@
 // The classes of a word, and its reading. A word's bits high..low are word / 2^low % 2^(high - low + 1).
-use crate::reading::AccessFields;
+use crate::access::access_kind;
+use crate::access::is_any_access;
 use crate::reading::DataFields;
 use crate::reading::Kind;
 use crate::reading::MultiplyFields;
@@ -10,7 +11,7 @@ ghost use mathlib.Core.Bool.{false};
 ghost use Prim.Native.Nat.{_≤_};
 ghost use lib.Dec.{eqb};
 ghost use Rattle.decoder.specs.Bits.{bits};
-ghost use Rattle.decoder.specs.Word.{conditionOf, isCompare, isMove, isData, operandOf, isMultiply, isAnyAccess, isLiteralLoad, kindOf, readingOf};
+ghost use Rattle.decoder.specs.Word.{conditionOf, isCompare, isMove, isData, operandOf, isMultiply, isAnyAccess, kindOf, readingOf};
 
 // The nop, to the bit.
 const NOP: u32 = 0xE320_F000;
@@ -74,54 +75,9 @@ fn is_multiply(word: u32) -> bool
     (plain | (head == 1)) & (word / 16 % 16 == 9)
 }
 
-fn is_any_access(word: u32) -> bool
-    ensures { λ r. ⌜ r ≡ isAnyAccess word ⌝ }
-{
-    let p = word / 0x100_0000 % 2;
-    let w = word / 0x20_0000 % 2;
-    let same = word / 0x1_0000 % 16 == word / 0x1000 % 16;
-    (word / 0x200_0000 % 8 == 2) & !((p == 0) & (w == 1)) & !(((p == 0) | (w == 1)) & same)
-}
-
-fn is_literal_load(word: u32) -> bool
-    ensures { λ r. ⌜ r ≡ isLiteralLoad word ⌝ }
-{
-    let p = word / 0x100_0000 % 2;
-    let b = word / 0x40_0000 % 2;
-    let w = word / 0x20_0000 % 2;
-    let l = word / 0x10_0000 % 2;
-    is_any_access(word) & (word / 0x1_0000 % 16 == 15) & (p == 1) & (b == 0) & (w == 0) & (l == 1)
-}
-
-// Bits 27..25 are 2.
-fn access_kind(word: u32) -> Kind
-    requires { ⌜ (eqb (conditionOf word) 15 ≡ false) × (bits word 27 25 ≡ 2) ⌝ }
-    ensures { λ r. ⌜ r ≡ kindOf word ⌝ }
-{
-    if !is_any_access(word) {
-        return Kind::Unlisted;
-    }
-    let u = word / 0x80_0000 % 2;
-    let rt = word / 0x1000 % 16;
-    let distance = word / 1 % 4096;
-    if is_literal_load(word) {
-        return Kind::LiteralLoad { u, rt, distance };
-    }
-    Kind::Access(AccessFields {
-        p: word / 0x100_0000 % 2,
-        u,
-        b: word / 0x40_0000 % 2,
-        w: word / 0x20_0000 % 2,
-        l: word / 0x10_0000 % 2,
-        rn: word / 0x1_0000 % 16,
-        rt,
-        distance,
-    })
-}
-
-// Bits 27..25 are 0 or 1.
+// Bits 27..25 are 0 or 1, and the word is no access.
 fn low_kind(word: u32) -> Kind
-    requires { ⌜ (eqb (conditionOf word) 15 ≡ false) × (bits word 27 25 ≤ 1) ⌝ }
+    requires { ⌜ (eqb (conditionOf word) 15 ≡ false) × (bits word 27 25 ≤ 1) × (isAnyAccess word ≡ false) ⌝ }
     ensures { λ r. ⌜ r ≡ kindOf word ⌝ }
 {
     if word == NOP {
@@ -168,7 +124,7 @@ fn low_kind(word: u32) -> Kind
     Kind::Unlisted
 }
 
-// At most one class takes a word, so they are asked by bits 27..25 and not in the paper's order.
+// At most one class takes a word, so they are asked in another order than the paper's.
 fn kind(word: u32) -> Kind
     ensures { λ r. ⌜ r ≡ kindOf word ⌝ }
 {
@@ -182,7 +138,7 @@ fn kind(word: u32) -> Kind
             offset: word / 1 % 0x100_0000,
         };
     }
-    if group == 2 {
+    if is_any_access(word) {
         return access_kind(word);
     }
     if group <= 1 {

@@ -1,6 +1,6 @@
 //! Writes calls, and what each must leave, for a program on another machine to
-//! replay: the bench's rows with the paper's answers, numbers past 32 bits, and
-//! random regions and patches with this program's answers.
+//! replay: the rows with the papers' answers, numbers past 32 bits, and random
+//! regions and patches with this program's answers.
 //!
 //! `vectors [seed] [regions] [patches]`
 //!

@@ -1,8 +1,8 @@
 //! Pairs built right, and then almost right.
 
-use super::{edge_condition, edge_register, layout, nops, visit, Case};
+use super::{edge_condition, edge_register, layout, nops, set, visit, Case};
 use crate::make::*;
-use crate::regions::SP;
+use crate::regions::{some_access, SP};
 use crate::rng::Rng;
 
 /// Values at and near the masks'.
@@ -57,14 +57,9 @@ fn chain(rng: &mut Rng) -> Vec<u32> {
     vec![first, second]
 }
 
-fn set(word: &mut u32, place: u32, field: u32) {
-    *word = *word & !(15 << place) | field << place;
-}
-
 fn right_pair(rng: &mut Rng) -> [u32; 2] {
-    let (condition, register) = (edge_condition(rng), edge_register(rng));
-    let letters = rng.pick(&[0, P, P | W]) | rng.pick(&[0, U]) | rng.pick(&[0, B, L, B | L]);
-    let access = access(condition, letters, register, edge_register(rng), rng.word());
+    let (condition, register, rt) = (edge_condition(rng), edge_register(rng), edge_register(rng));
+    let access = some_access(rng, condition, register, rt);
     match rng.below(5) {
         0 => [test(ALWAYS, register, rng.pick(&DATA_BITS)), access & 0x0FFF_FFFF],
         1 => {

@@ -194,7 +194,7 @@ fn counts(rng: &mut Rng) -> Call {
     let mut ledger = vec![0; 4 * bundles];
     ledger[target] = match rng.below(3) {
         0 => 4 * rng.field(9),
-        _ => 4 * (4 * bundles as u32 + 1 - rng.field(7)),
+        _ => 4 * (4 * bundles as u32 + 1 - rng.field(6)),
     };
     let first = 4 * rng.below(bundles);
     let mut visitors = || -> Vec<u32> {

@@ -2,6 +2,8 @@
 use Prim.Native.Nat.{ℕ, _+_, _*_, _/_, _%_, _^_}
 use Rattle.decoder.specs.declared.reading.Operand.{Operand}
 use Rattle.decoder.specs.declared.reading.Operand.the-variants.{Immediate, Shifted, ShiftedByRs}
+use Rattle.decoder.specs.declared.reading.Moved.{Moved}
+use Rattle.decoder.specs.declared.reading.Moved.the-variants.{Word, Halfword, Registers}
 use Rattle.decoder.specs.declared.reading.Kind.{Kind}
 use Rattle.decoder.specs.declared.reading.Kind.the-variants.{Unlisted, Data, HalfMove, Nop, Multiply, Access, LiteralLoad, Branch, RegisterBranch, Head, Literal}
 use Rattle.decoder.specs.declared.reading.Reading.{Reading}
@@ -18,9 +20,28 @@ operandBits (Immediate rotation byte) = rotation * 2 ^ 8 + byte
 operandBits (Shifted shift amount rm) = amount * 2 ^ 7 + (shift * 2 ^ 5 + rm)
 operandBits (ShiftedByRs shift rs rm) = rs * 2 ^ 8 + (shift * 2 ^ 5 + (1 * 2 ^ 4 + rm))
 
+-- bits 27..25 of an access
+unfoldable pub familyOf : Moved → ℕ
+familyOf (Word b rt distance) = 2
+familyOf (Halfword part rt distance) = 0
+familyOf (Registers list) = 4
+
+-- its bit 22
+unfoldable pub bit22 : Moved → ℕ
+bit22 (Word b rt distance) = b
+bit22 (Halfword part rt distance) = 1
+bit22 (Registers list) = 0
+
+-- its bits 15..0
+unfoldable pub movedBits : Moved → ℕ
+movedBits (Word b rt distance) = rt * 2 ^ 12 + distance
+movedBits (Halfword part rt distance) =
+    rt * 2 ^ 12 + (distance / 16 * 2 ^ 8 + (1 * 2 ^ 7 + (part * 2 ^ 5 + (1 * 2 ^ 4 + distance % 16))))
+movedBits (Registers list) = list
+
 -- bits 27..0; a word in no class has no reading to build them from
 unfoldable pub kindBits : Kind → ℕ
-unfolding groupOf operandBits
+unfolding groupOf operandBits familyOf bit22 movedBits
 kindBits (Data f) =
     groupOf (f .operand) * 2 ^ 25
     + (f .operation * 2 ^ 21 + (f .s * 2 ^ 20 + (f .rn * 2 ^ 16 + (f .rd * 2 ^ 12 + operandBits (f .operand)))))
@@ -30,10 +51,10 @@ kindBits (Multiply f) =
     f .accumulate * 2 ^ 21
     + (f .s * 2 ^ 20 + (f .target * 2 ^ 16 + (f .added * 2 ^ 12 + (f .rs * 2 ^ 8 + (9 * 2 ^ 4 + f .rm)))))
 kindBits (Access f) =
-    2 * 2 ^ 25
+    familyOf (f .moved) * 2 ^ 25
     + (f .p * 2 ^ 24
     + (f .u * 2 ^ 23
-    + (f .b * 2 ^ 22 + (f .w * 2 ^ 21 + (f .l * 2 ^ 20 + (f .rn * 2 ^ 16 + (f .rt * 2 ^ 12 + f .distance)))))))
+    + (bit22 (f .moved) * 2 ^ 22 + (f .w * 2 ^ 21 + (f .l * 2 ^ 20 + (f .rn * 2 ^ 16 + movedBits (f .moved)))))))
 kindBits (LiteralLoad u rt distance) = 2 * 2 ^ 25 + (1 * 2 ^ 24 + (u * 2 ^ 23 + (1 * 2 ^ 20 + (15 * 2 ^ 16 + (rt * 2 ^ 12 + distance)))))
 kindBits (Branch call offset) = 5 * 2 ^ 25 + (call * 2 ^ 24 + offset)
 kindBits (RegisterBranch call rm) = (0x12_FFF1 + 2 * call) * 2 ^ 4 + rm

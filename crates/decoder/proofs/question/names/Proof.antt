@@ -25,7 +25,7 @@ returns-3 c = c .multiply-names .ensures ∙ sym (ap (names (c .before .before .
 
 returns-4 : tie.Need-returns-4
 unfolding names
-returns-4 c = sym (ap (names (c .before .before .before .before .before .args .r)) (c .before .before .before .kind4 .given .1))
+returns-4 c = simp (c .moved-names .ensures) (sym (ap (names (c .before .before .before .before .before .args .r)) (c .before .before .before .kind4 .given .1)))
 
 returns-5 : tie.Need-returns-5
 unfolding names
@@ -51,6 +51,7 @@ names-spec =
     (λ c. search needs)
     (λ c κs. search needs)
     (λ c. search needs)
+    (λ c κs. search needs)
     (λ c. search needs)
     (λ c. search needs)
     returns

@@ -18,7 +18,10 @@ returns-2 c = c .multiply-names .ensures ∙ sym (ap takesSp (c .before .before 
 
 returns-3 : tie.Need-returns-3
 unfolding takesSp
-returns-3 c = sym (ap takesSp (c .before .before .before .kind3 .given .1))
+returns-3 c =
+    let list = c .before in
+    let moved = list .before in
+    simp (moved .moved-names .ensures, c .list-names .ensures, list .register-list .ensures) (sym (ap takesSp (moved .before .before .before .kind3 .given .1)))
 
 returns-4 : tie.Need-returns-4
 unfolding takesSp
@@ -40,6 +43,9 @@ takes-sp-spec =
     (λ c. search needs)
     (λ c κs. search needs)
     (λ c. search needs)
+    (λ c κs. search needs)
+    (λ c κs. search needs)
+    (λ c κs. search needs)
     (λ c. search needs)
     (λ c. search needs)
     returns

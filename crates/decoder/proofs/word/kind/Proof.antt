@@ -1,11 +1,11 @@
 -- `word::kind` meets its contract: bits 27..25 say which classes are left to ask.
 use borrow.Author.Needs.{needs}
-use borrow.Author.Tests.{eq-eqb, ne-eqb, lt-leb}
-use mathlib.Core.Path.{sym}
+use borrow.Author.Tests.{eq-eqb, ne-eqb}
+use mathlib.Core.Path.{_∙_, sym}
 use Rattle.decoder.specs.Bits.{bits}
 use Rattle.decoder.specs.Word.{isBranch}
-use Rattle.decoder.proofs.Classes.{of-data, of-half-move, of-nop, of-multiply, of-access, of-literal-load, of-branch, of-register-branch, condition-15}
-use Rattle.decoder.proofs.Taken.{kind-taken, kind-untaken, out-of-group}
+use Rattle.decoder.proofs.Classes.{of-branch, condition-15}
+use Rattle.decoder.proofs.Taken.{kind-taken, kind-untaken, untaken-above}
 use Rattle.decoder.proofs.word.kind.Statement.{statement}
 use Rattle.decoder.proofs.word.kind.Tie as tie
 
@@ -17,28 +17,20 @@ unfolding isBranch
 returns-2 c = sym (kind-taken of-branch (c .before .before .args .word) (ne-eqb _ _ (c .before .if1 .left)) (eq-eqb _ _ (c .if2 .taken)))
 
 access-kind-requires : tie.Need-access-kind-requires
-access-kind-requires c κs = (ne-eqb _ _ (c .before .before .if1 .left), c .if3 .taken)
+access-kind-requires c κs = (ne-eqb _ _ (c .before .before .before .if1 .left), sym (c .before .is-any-access .ensures) ∙ c .if3 .taken)
 
 low-kind-requires : tie.Need-low-kind-requires
-low-kind-requires c κs = (ne-eqb _ _ (c .before .before .before .if1 .left), c .if4 .taken)
+low-kind-requires c κs =
+    let asked = c .before .before in
+    (ne-eqb _ _ (asked .before .before .if1 .left), c .if4 .taken, sym (asked .is-any-access .ensures) ∙ c .before .if3 .left)
 
 returns-5 : tie.Need-returns-5
 returns-5 c =
-    let w = c .before .before .before .before .args .word in
-    let low = lt-leb (bits w 27 25) 1 (c .if4 .left) in
-    let two = ne-eqb (bits w 27 25) 2 (c .before .if3 .left) in
+    let asked = c .before .before in
+    let w = asked .before .before .before .args .word in
     sym
-    (kind-untaken w (ne-eqb _ _ (c .before .before .before .if1 .left))
-    record {
-      data′ = out-of-group of-data w low;
-      half-move = out-of-group of-half-move w low;
-      nop = out-of-group of-nop w low;
-      multiply = out-of-group of-multiply w low;
-      literal-load = out-of-group of-literal-load w two;
-      access = out-of-group of-access w two;
-      branch = out-of-group of-branch w (ne-eqb (bits w 27 25) 5 (c .before .before .if2 .left));
-      register-branch = out-of-group of-register-branch w low;
-    })
+    (kind-untaken w (ne-eqb _ _ (asked .before .before .if1 .left))
+    (untaken-above w (c .if4 .left) (ne-eqb (bits w 27 25) 5 (asked .before .if2 .left)) (sym (asked .is-any-access .ensures) ∙ c .before .if3 .left)))
 
 pub kind-spec : {M : Type 1} → statement M
 kind-spec =
@@ -46,6 +38,7 @@ kind-spec =
     (tie.spec
     returns
     returns-2
+    (λ c κs. search needs)
     access-kind-requires
     (λ c. search needs)
     low-kind-requires

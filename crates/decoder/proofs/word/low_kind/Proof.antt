@@ -4,11 +4,11 @@ use borrow.Author.Tests.{eq-eqb, ne-eqb}
 use native.Mathlib.Omega.{arith}
 use mathlib.Core.Path.{_∙_, sym, ap}
 use Rattle.decoder.specs.Bits.{bits}
-use Rattle.decoder.specs.Word.{operationOf, sOf, rnOf, rdOf, dataFields, isHalfMove, isNop, multiplyFields, isRegisterBranch}
+use Rattle.decoder.specs.Word.{operationOf, sOf, rnOf, rdOf, dataFields, isHalfMove, isNop, multiplyFields, isBranch, isRegisterBranch}
 use Rattle.decoder.specs.declared.reading.Operand.{Operand}
 use Rattle.decoder.specs.declared.reading.Kind.the-variants.{Data}
-use Rattle.decoder.proofs.Classes.{of-data, of-half-move, of-nop, of-multiply, of-access, of-literal-load, of-branch, of-register-branch}
-use Rattle.decoder.proofs.Taken.{kind-taken, kind-untaken, out-of-group}
+use Rattle.decoder.proofs.Classes.{of-data, of-half-move, of-nop, of-multiply, of-register-branch}
+use Rattle.decoder.proofs.Taken.{kind-taken, kind-untaken}
 use Rattle.decoder.proofs.word.low_kind.Statement.{statement}
 use Rattle.decoder.proofs.word.low_kind.Tie as tie
 
@@ -43,7 +43,7 @@ returns-5 c =
     sym (kind-taken of-register-branch (start .args .word) (start .pre .0) (c .if5 .taken))
 
 returns-6 : tie.Need-returns-6
-unfolding isHalfMove isNop isRegisterBranch
+unfolding isHalfMove isNop isBranch isRegisterBranch
 returns-6 c =
     let half = c .before in
     let multiply′ = half .before in
@@ -59,9 +59,8 @@ returns-6 c =
       half-move = half .if4 .left;
       nop = ne-eqb _ _ (nop′ .if1 .left);
       multiply = sym (multiply′ .before .is-multiply .ensures) ∙ multiply′ .if3 .left;
-      literal-load = out-of-group of-literal-load w (ne-eqb (bits w 27 25) 2 (λ e. omega arith));
-      access = out-of-group of-access w (ne-eqb (bits w 27 25) 2 (λ e. omega arith));
-      branch = out-of-group of-branch w (ne-eqb (bits w 27 25) 5 (λ e. omega arith));
+      any-access = start .pre .2;
+      branch = ne-eqb (bits w 27 25) 5 (λ e. omega arith);
       register-branch = c .if5 .left;
     })
 

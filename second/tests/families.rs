@@ -1,0 +1,145 @@
+//! The families make what request 1 adds: half accesses and multiple transfers,
+//! sound and with but one thing wrong.
+
+mod common;
+
+use common::{answer, answer_to_bytes};
+use second::families::{of_patches, of_regions, Case};
+use second::make::{words, B, I, L, P, W};
+use second::Outcome;
+use std::collections::BTreeMap;
+
+const PLAIN: u32 = 0;
+const INNER: u32 = 1;
+
+/// A kind of accepted word, told by word and role.
+type Sound = (&'static str, fn(u32, u32) -> bool);
+
+const SOUND: [Sound; 11] = [
+    ("halfword load", |w, role| half(w, L, 1) && role == INNER),
+    ("halfword store", |w, role| half(w, 0, 1) && role == INNER),
+    ("halfword store of r13", |w, role| half(w, 0, 1) && w >> 12 & 15 == 13 && role == INNER),
+    ("signed byte", |w, role| half(w, L, 2) && role == INNER),
+    ("signed halfword", |w, role| half(w, L, 3) && role == INNER),
+    ("halfword on r13", |w, role| half(w, L, 1) && role == PLAIN),
+    ("multiple load", |w, role| is_multiple(w) && is_load(w) && role == INNER),
+    ("multiple store", |w, role| is_multiple(w) && !is_load(w) && role == INNER),
+    ("base in the list", |w, role| is_multiple(w) && w >> (w >> 16 & 15) & 1 == 1 && role == INNER),
+    ("push", |w, role| w >> 16 & 0xFFF == 0x92D && role == PLAIN),
+    ("pop", |w, role| w >> 16 & 0xFFF == 0x8BD && role == PLAIN),
+];
+
+/// A kind of refused word: the refusal, who is meant, and what mends it.
+type Near = (&'static str, u32, fn(u32) -> bool, fn(u32) -> u32);
+
+const NEAR: [Near; 18] = [
+    ("distance by register", 4, is_half, |w| w | I << 20),
+    ("bits 6..5 of 0", 4, is_half, |w| w | 1 << 5),
+    ("signed store", 4, is_half, |w| w | L << 20),
+    ("P = 0 with W = 1", 4, is_half, |w| w | P << 20),
+    ("write-back into Rt", 4, is_half, |w| with(w, 12, 1)),
+    ("half access of r9 or r15", 5, is_half, |w| with(w, 12, 1)),
+    ("half access on r9 or r15", 5, is_half, |w| with(w, 16, 13)),
+    ("half load of r13", 6, is_half, |w| with(w, 12, 1)),
+    ("half access without guard", 7, is_half, |w| with(w, 16, 13)),
+    ("empty list", 4, is_multiple, |w| w | 1 << 1),
+    ("write-back into the list", 4, is_multiple, |w| w & !(W << 20)),
+    ("bit 22 of a multiple", 4, is_multiple, |w| w & !(B << 20)),
+    ("r9 in a list", 5, is_multiple, |w| w & !(1 << 9)),
+    ("r15 in a list", 5, is_multiple, |w| w & !(1 << 15)),
+    ("multiple on r9 or r15", 5, is_multiple, |w| with(w, 16, 13)),
+    ("load of r13 by a list", 6, |w| is_multiple(w) && is_load(w), |w| w & !(1 << 13)),
+    ("store of r13 by a list", 6, |w| is_multiple(w) && !is_load(w), |w| w & !(1 << 13)),
+    ("multiple without guard", 7, is_multiple, |w| with(w, 16, 13)),
+];
+
+fn is_half(word: u32) -> bool {
+    word >> 25 & 7 == 0b000 && word & 0x90 == 0x90
+}
+
+fn half(word: u32, load: u32, kind: u32) -> bool {
+    is_half(word) && word >> 20 & L == load && word >> 5 & 3 == kind
+}
+
+fn is_multiple(word: u32) -> bool {
+    word >> 25 & 7 == 0b100
+}
+
+fn is_load(word: u32) -> bool {
+    word >> 20 & L == L
+}
+
+/// The word with another field of four bits.
+fn with(word: u32, place: u32, field: u32) -> u32 {
+    word & !(15 << place) | field << place
+}
+
+/// How often each kind of word was met.
+#[derive(Default)]
+struct Met(BTreeMap<&'static str, usize>);
+
+impl Met {
+    fn meet(&mut self, name: &'static str) {
+        *self.0.entry(name).or_default() += 1;
+    }
+
+    fn accepted(&mut self, words: &[u32], ledger: &[u32]) {
+        for (&word, entry) in words.iter().zip(ledger) {
+            let kinds = SOUND.iter().filter(|(_, is)| is(word, entry % 4));
+            kinds.for_each(|(name, _)| self.meet(name));
+        }
+    }
+
+    /// Counts a near miss only where it alone keeps the region out.
+    fn refused(&mut self, case: &Case, number: u32, address: u32) {
+        let mut code = words(&case.code);
+        let place = (address - case.layout.code_start) as usize / 4;
+        let word = code[place];
+        for (name, _, _, mend) in NEAR.iter().filter(|near| near.1 == number && near.2(word)) {
+            code[place] = mend(word);
+            if answer(&case.layout, &code).is_ok() {
+                self.meet(name);
+            }
+        }
+    }
+
+    fn has(&self, names: impl Iterator<Item = &'static str>) {
+        for name in names {
+            assert!(self.0.get(name).is_some_and(|&times| times > 20), "{name}: {:?}", self.0);
+        }
+    }
+}
+
+#[test]
+fn regions() {
+    let mut met = Met::default();
+    for (family, mut rng, share) in of_regions(1, 40_000) {
+        for _ in 0..share {
+            let case = (family.make)(&mut rng);
+            match answer_to_bytes(&case.layout, &case.code) {
+                Ok(ledger) => met.accepted(&words(&case.code), &ledger),
+                Err(Outcome::Refused { number, address: Some(address) }) => {
+                    met.refused(&case, number, address)
+                }
+                Err(_) => {}
+            }
+        }
+    }
+    met.has(SOUND.iter().map(|kind| kind.0).chain(NEAR.iter().map(|kind| kind.0)));
+}
+
+#[test]
+fn patches() {
+    let mut met = Met::default();
+    for (family, mut rng, share) in of_patches(1, 2_000) {
+        for call in (0..share).flat_map(|_| (family.make)(&mut rng)) {
+            let (outcome, after) = call.answer();
+            if outcome == Outcome::Accepted {
+                met.accepted(&words(&call.new), &after.ledger[call.offset / 4..]);
+            }
+        }
+    }
+    // Regions to order store no r13, and other patches are seldom accepted.
+    let names = SOUND.iter().map(|kind| kind.0);
+    met.has(names.filter(|&name| name != "halfword store of r13"));
+}
