@@ -3,11 +3,12 @@ use Prim.Native.Nat.{ℕ}
 use mathlib.Core.Path.{_≡_}
 use mathlib.Core.Logic.{_⊎_, inl, inr, ⊎-elim, ⊎-map}
 use mathlib.Core.Bool.{Bool, true, not, _&&_, _||_}
+use mathlib.Core.List.{[], _∷_}
 use lib.Dec.{eqb, leb}
 use borrow.Author.Tests.{eqb-true, eqb-false, not-true}
 use Rattle.decoder.specs.Bits.{bits}
 use Rattle.decoder.specs.Word.{rnOf, rdOf, operationOf, sOf, dataShape, isCompare, isMove, isData, isHalfMove, isMultiply, writeBackHolds, isWordOrByte, isHalfword, listNames, isMultipleTransfer, isAnyAccess, isLiteralLoad, isAccess, isRegisterBranch}
-use Rattle.decoder.proofs.Bools.{both, either, implies}
+use Rattle.decoder.proofs.Bools.{both, each, either, implies}
 
 -- two equations of a number, from a test of both
 one-of : (x a b : ℕ) → eqb x a || eqb x b ≡ true → (x ≡ a) ⊎ (x ≡ b)
@@ -73,32 +74,19 @@ pub record IsHalfword (w : ℕ) : Type 0 where
 
 pub halfword-says : (w : ℕ) → isHalfword w ≡ true → IsHalfword w
 halfword-says w e =
-    let g = eqb (bits w 27 25) 0 in
-    let k = eqb (bits w 22 22) 1 in
-    let h = eqb (bits w 7 7) 1 in
-    let l = eqb (bits w 4 4) 1 in
-    let n = not (eqb (bits w 6 5) 0) in
-    let s = not (eqb (bits w 20 20) 0 && leb 2 (bits w 6 5)) in
-    let e1 = both (g && k && h && l && n) s (both (g && k && h && l && n && s) (writeBackHolds w) e .0) in
-    let e2 = both (g && k && h && l) n (e1 .0) in
-    let e3 = both (g && k && h) l (e2 .0) in
-    let e4 = both (g && k) h (e3 .0) in
-    let e5 = both g k (e4 .0) in
+    let is = each (eqb (bits w 27 25) 0) (eqb (bits w 22 22) 1 ∷ eqb (bits w 7 7) 1 ∷ eqb (bits w 4 4) 1 ∷ not (eqb (bits w 6 5) 0) ∷ not (eqb (bits w 20 20) 0 && leb 2 (bits w 6 5)) ∷ writeBackHolds w ∷ []) e in
     record {
-      group = eqb-true _ _ (e5 .0);
-      bit22 = eqb-true _ _ (e5 .1);
-      bit7 = eqb-true _ _ (e4 .1);
-      bit4 = eqb-true _ _ (e3 .1);
-      part = eqb-false _ _ (not-true _ (e2 .1));
+      group = eqb-true _ _ (is 0);
+      bit22 = eqb-true _ _ (is 1);
+      bit7 = eqb-true _ _ (is 2);
+      bit4 = eqb-true _ _ (is 3);
+      part = eqb-false _ _ (not-true _ (is 4));
     }
 
 pub multiple-transfer-says : (w : ℕ) → isMultipleTransfer w ≡ true → (bits w 27 25 ≡ 4) × (bits w 22 22 ≡ 0)
 multiple-transfer-says w e =
-    let g = eqb (bits w 27 25) 4 in
-    let k = eqb (bits w 22 22) 0 in
-    let n = not (eqb (bits w 15 0) 0) in
-    let p = both g k (both (g && k) n (both (g && k && n) (not (eqb (bits w 21 21) 1 && listNames (rnOf w) (bits w 15 0))) e .0) .0) in
-    (eqb-true _ _ (p .0), eqb-true _ _ (p .1))
+    let is = each (eqb (bits w 27 25) 4) (eqb (bits w 22 22) 0 ∷ not (eqb (bits w 15 0) 0) ∷ not (eqb (bits w 21 21) 1 && listNames (rnOf w) (bits w 15 0)) ∷ []) e in
+    (eqb-true _ _ (is 0), eqb-true _ _ (is 1))
 
 -- what an access that is no literal load moves says of the word
 pub data Family (w : ℕ) : Type 0 where
@@ -129,24 +117,14 @@ pub record Literally (w : ℕ) : Type 0 where
 pub literal-load-says : (w : ℕ) → isLiteralLoad w ≡ true → Literally w
 unfolding isLiteralLoad
 literal-load-says w e =
-    let a = isWordOrByte w in
-    let n = eqb (rnOf w) 15 in
-    let p = eqb (bits w 24 24) 1 in
-    let b = eqb (bits w 22 22) 0 in
-    let v = eqb (bits w 21 21) 0 in
-    let l = eqb (bits w 20 20) 1 in
-    let e1 = both (a && n && p && b && v) l e in
-    let e2 = both (a && n && p && b) v (e1 .0) in
-    let e3 = both (a && n && p) b (e2 .0) in
-    let e4 = both (a && n) p (e3 .0) in
-    let e5 = both a n (e4 .0) in
+    let is = each (isWordOrByte w) (eqb (rnOf w) 15 ∷ eqb (bits w 24 24) 1 ∷ eqb (bits w 22 22) 0 ∷ eqb (bits w 21 21) 0 ∷ eqb (bits w 20 20) 1 ∷ []) e in
     record {
-      group = word-or-byte-says w (e5 .0);
-      rn = eqb-true _ _ (e5 .1);
-      p = eqb-true _ _ (e4 .1);
-      b = eqb-true _ _ (e3 .1);
-      w′ = eqb-true _ _ (e2 .1);
-      l = eqb-true _ _ (e1 .1);
+      group = word-or-byte-says w (is 0);
+      rn = eqb-true _ _ (is 1);
+      p = eqb-true _ _ (is 2);
+      b = eqb-true _ _ (is 3);
+      w′ = eqb-true _ _ (is 4);
+      l = eqb-true _ _ (is 5);
     }
 
 pub register-branch-says : (w : ℕ) → isRegisterBranch w ≡ true → (bits w 27 4 ≡ 0x12_FFF1) ⊎ (bits w 27 4 ≡ 0x12_FFF3)

@@ -77,7 +77,7 @@ fn register_list(moved: Moved) -> u32
     }
 }
 
-// A register field of the word is r; a literal load's base is left out.
+// A register field of the word is r, or its list names r; a literal load's base is left out.
 pub fn names(r: u32, kind: Kind) -> bool
     ensures { λ b. ⌜ b ≡ «names-r» r kind ⌝ }
 {

@@ -15,13 +15,4 @@ returns-3 : tie.Need-returns-3
 returns-3 c = c .list-names .ensures ∙ sym (ap (movedNames (c .before .before .before .before .args .r)) (c .before .before .moved3 .given .1))
 
 pub moved-names-spec : {M : Type 1} → statement M
-moved-names-spec =
-    tie.close
-    (tie.spec
-    (λ c. search needs)
-    (λ c. search needs)
-    (λ c. search needs)
-    (λ c κs. search needs)
-    returns
-    returns-2
-    returns-3)
+moved-names-spec = tie.close (tie.spec (λ c. search needs) (λ c. search needs) (λ c. search needs) (λ c κs. search needs) returns returns-2 returns-3)
