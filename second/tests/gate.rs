@@ -11,9 +11,9 @@ use std::io::{ErrorKind, Write};
 use std::path::Path;
 use std::process::{Child, Command, Output, Stdio};
 
-/// Memory for the program, its libraries and an emulator beneath it, and not for
-/// a long input.
-const KIB_ALLOWED: u32 = 262_144;
+/// Memory for the program, its libraries and an emulator beneath it, which takes
+/// about 280 MiB as it starts, and not for a gigabyte of input.
+const KIB_ALLOWED: u32 = 524_288;
 
 /// Starts the program in little memory.
 fn start(input: Stdio) -> Child {
