@@ -6,9 +6,11 @@ pub use crate::word::NOP;
 pub const EQUAL: u32 = 0;
 pub const ALWAYS: u32 = 14;
 
-pub const BIC: u32 = 14;
-pub const MOV: u32 = 13;
+pub const SUB: u32 = 2;
+pub const ADD: u32 = 4;
 pub const TST: u32 = 8;
+pub const MOV: u32 = 13;
+pub const BIC: u32 = 14;
 
 /// The low twelve bits that make 0xC0000000.
 pub const DATA_BITS: [u32; 4] = [0x103, 0x20C, 0x330, 0x4C0];

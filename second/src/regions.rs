@@ -75,7 +75,7 @@ fn item(rng: &mut Rng, room: usize, test_pairs: bool) -> Vec<u32> {
     if room > 1 && rng.once_in(2) {
         return pair(rng, room == 2, test_pairs).to_vec();
     }
-    let condition = condition(rng);
+    let condition = some_condition(rng);
     vec![match rng.below(10) {
         0 => NOP,
         1 => half_move(condition, rng.once_in(2), rng.pick(&FREE), rng.word() & 0xFFFF),
@@ -88,12 +88,12 @@ fn item(rng: &mut Rng, room: usize, test_pairs: bool) -> Vec<u32> {
         5 => literal(condition, rng.pick(&FREE), 0, 0),
         6 => mask(condition, SP, rng.pick(&DATA_BITS)),
         7 | 8 => branch(condition, room == 1 && rng.once_in(2), 0, 0),
-        _ => data_word(rng, condition),
+        _ => some_data(rng, condition),
     }]
 }
 
 fn pair(rng: &mut Rng, last: bool, test_pairs: bool) -> [u32; 2] {
-    let (condition, register) = (condition(rng), rng.pick(&FREE));
+    let (condition, register) = (some_condition(rng), rng.pick(&FREE));
     match rng.below(if test_pairs { 6 } else { 5 }) {
         0 => {
             let source = rng.pick(&FREE);
@@ -153,7 +153,7 @@ fn some_letters(rng: &mut Rng) -> u32 {
 }
 
 /// A data word that writes a free register or none.
-fn data_word(rng: &mut Rng, condition: u32) -> u32 {
+pub fn some_data(rng: &mut Rng, condition: u32) -> u32 {
     let operation = rng.field(16);
     let sources = [rng.pick(&FREE), SP];
     let (s, rn, rd) = match operation {
@@ -169,7 +169,7 @@ fn data_word(rng: &mut Rng, condition: u32) -> u32 {
     data(condition, operation, s, rn, rd, low)
 }
 
-fn condition(rng: &mut Rng) -> u32 {
+pub fn some_condition(rng: &mut Rng) -> u32 {
     if rng.once_in(2) {
         ALWAYS
     } else {

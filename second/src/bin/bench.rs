@@ -3,7 +3,7 @@
 //! `bench [file.bin ...]`
 
 use second::make::*;
-use second::regions::{address, BENCH_LAYOUT as LAYOUT, FREE};
+use second::regions::{address, some_condition, some_data, BENCH_LAYOUT as LAYOUT, FREE, SP};
 use second::rng::Rng;
 use second::{awl, check, Outcome, CODE_LIMIT};
 use std::hint::black_box;
@@ -21,8 +21,12 @@ fn main() -> ExitCode {
     println!("Each buffer is checked by both before timing, so caches are warm.");
     println!("Best of {ROUNDS} rounds in turn, in nanoseconds per word.");
     println!("{:<24}{:>8}{:>10}{:>10}{:>8}", "content", "bytes", "library", "plain", "ratio");
-    let contents: [(&str, Make); 3] =
-        [("nop-heavy", nop_heavy), ("access-heavy", access_heavy), ("branch-heavy", branch_heavy)];
+    let contents: [(&str, Make); 4] = [
+        ("nop-heavy", nop_heavy),
+        ("data-heavy", data_heavy),
+        ("access-heavy", access_heavy),
+        ("branch-heavy", branch_heavy),
+    ];
     let mut sound = true;
     for (name, make) in contents {
         for size in SIZES {
@@ -82,6 +86,18 @@ fn round(mut call: impl FnMut() -> Outcome) -> f64 {
 fn nop_heavy(rng: &mut Rng, words: usize) -> Vec<u32> {
     let moved = |rng: &mut Rng| data(ALWAYS, MOV, 0, 0, rng.pick(&FREE), rng.pick(&FREE));
     (0..words).map(|_| if rng.once_in(8) { moved(rng) } else { NOP }).collect()
+}
+
+/// Data words of every operation. In each bundle r13 is moved down or up, or has
+/// bits cleared, by an immediate of any rotation, and its closing mask follows.
+fn data_heavy(rng: &mut Rng, words: usize) -> Vec<u32> {
+    let bundle = |rng: &mut Rng| {
+        let (condition, operation) = (some_condition(rng), rng.pick(&[SUB, ADD, BIC]));
+        let write = data(condition, operation, 0, SP, SP, IMMEDIATE | rng.word() & 0xFFF);
+        let closing = mask(condition, SP, rng.pick(&DATA_BITS));
+        [some_data(rng, condition), some_data(rng, condition), write, closing]
+    };
+    (0..words / 4).flat_map(|_| bundle(rng)).collect()
 }
 
 /// Guarded loads and stores, two to a bundle.
