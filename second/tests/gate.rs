@@ -12,10 +12,10 @@ use std::path::Path;
 use std::process::{Child, Command, Output, Stdio};
 
 /// Memory for the program, its libraries and an emulator beneath it, which takes
-/// about 280 MiB as it starts, and not for a gigabyte of input.
+/// up to 280 MiB as it starts, and not for a gigabyte of input.
 const KIB_ALLOWED: u32 = 524_288;
 
-/// Starts the program in little memory.
+/// Starts the program with no more memory than it is allowed.
 fn start(input: Stdio) -> Child {
     let gate = env::var_os("AWL_GATE").expect("AWL_GATE names the small program");
     Command::new("sh")
