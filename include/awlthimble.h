@@ -10,6 +10,9 @@
  *   second writer could swap a word after it was tested.
  * - Nothing but these calls writes to checked code or its ledger. An add-on's stores reach the whole
  *   sandbox, so while one runs its code is not writable there, and the ledger lies outside.
+ * - A ledger belongs to the edition of the rules that made it. Another edition may give words other
+ *   roles: a patch with the older ledger may then be refused with 13, or go by roles that no longer
+ *   hold. So when the library is exchanged, check accepted code again, and keep that check's ledger.
  * - A call promises what memory holds. That the processor sees it, past its instruction caches, is the
  *   caller's to bring about.
  * So to load an add-on: copy it to where it is to run, check that copy, make it not writable,

@@ -7,7 +7,7 @@ mod places;
 mod transfers;
 
 use crate::make::*;
-use crate::regions::{self, address, aim, bundle, region, spoil, FREE};
+use crate::regions::{self, address, aim, bundle, region, some_low, some_mask, spoil, FREE};
 use crate::rng::Rng;
 use crate::{Layout, CODE_LIMIT};
 
@@ -74,7 +74,7 @@ fn shares<T, const N: usize>(
 const REGIONS: [Family<Case>; 12] = [
     Family { name: "random", share: 1, make: random },
     Family { name: "edges", share: 4, make: edges },
-    Family { name: "pairs", share: 4, make: pairs::pairs },
+    Family { name: "pairs", share: 6, make: pairs::pairs },
     Family { name: "transfers", share: 4, make: transfers::transfers },
     Family { name: "heads", share: 1, make: heads },
     Family { name: "branches", share: 3, make: places::branches },
@@ -139,12 +139,10 @@ fn placed(rng: &mut Rng, word: u32) -> Case {
     let place = rng.below(words.len());
     words[place] = word;
     if !place.is_multiple_of(4) && !rng.once_in(4) {
-        let tested = word >> 28 == EQUAL && rng.once_in(2);
-        words[place - 1] =
-            if tested { test(ALWAYS, word >> 16 & 15, DATA_BITS[0]) } else { guard(word) };
+        words[place - 1] = edge_guard(rng, word);
     }
     if place % 4 != 3 && rng.once_in(2) {
-        words[place + 1] = mask(word >> 28, regions::SP, rng.pick(&DATA_BITS));
+        words[place + 1] = some_mask(rng, word >> 28, SP, &DATA_BITS);
     }
     let layout = layout(rng, &words);
     if rng.once_in(2) {
@@ -153,12 +151,26 @@ fn placed(rng: &mut Rng, word: u32) -> Case {
     Case::new(layout, &words)
 }
 
+/// What would guard the word; now and then it reads some other register, has more
+/// bits, or has one turned.
+fn edge_guard(rng: &mut Rng, word: u32) -> u32 {
+    let tested = word >> 28 == EQUAL && rng.once_in(2);
+    let mut guard = if tested { test(ALWAYS, word >> 16 & 15, DATA_BITS[0]) } else { guard(word) };
+    match rng.below(8) {
+        0 => set(&mut guard, 16, edge_register(rng)),
+        1 => guard |= rng.field(256),
+        2 => guard ^= 1 << rng.field(8),
+        _ => {}
+    }
+    guard
+}
+
 /// A word of some class, with conditions and registers at their edges.
 fn edge_word(rng: &mut Rng) -> u32 {
     let c = edge_condition(rng);
     let [a, b, d] = [(); 3].map(|()| edge_register(rng));
     let low = rng.word() & 0xFFF;
-    match rng.below(16) {
+    match rng.below(17) {
         0 => data(c, rng.field(16), rng.field(2), a, b, IMMEDIATE | low),
         1 => data(c, rng.field(16), rng.field(2), a, b, low & 0xFE0 | d),
         2 => data(c, rng.field(16), rng.field(2), a, b, d << 8 | low & 0x6F | 0x10),
@@ -172,6 +184,7 @@ fn edge_word(rng: &mut Rng) -> u32 {
         11 => access(c, P | L | rng.pick(&[0, U]), 15, a, low & 0x3F),
         12 | 13 => transfers::word(rng),
         14 => c << 28 | (0b1010 | rng.field(2)) << 24 | rng.word() & 0xF,
+        15 => mask_from(c, a, rng.pick(&[b, SP]), some_low(rng, &DATA_BITS)),
         _ => register_branch(c, rng.once_in(2), a),
     }
 }

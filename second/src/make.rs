@@ -1,7 +1,7 @@
 //! Words to order, for the tests and the comparisons.
 
 pub use crate::bundle::HEAD;
-pub use crate::word::NOP;
+pub use crate::word::{NOP, PC, R9, SP};
 
 pub const EQUAL: u32 = 0;
 pub const ALWAYS: u32 = 14;
@@ -12,9 +12,10 @@ pub const TST: u32 = 8;
 pub const MOV: u32 = 13;
 pub const BIC: u32 = 14;
 
-/// The low twelve bits that make 0xC0000000.
+/// The low twelve bits that make 0xC0000000; with any more of the lowest eight
+/// set, they are all that make its bits and others.
 pub const DATA_BITS: [u32; 4] = [0x103, 0x20C, 0x330, 0x4C0];
-/// The low twelve bits that make 0xC000000F.
+/// The same for 0xC000000F.
 pub const BRANCH_BITS: [u32; 2] = [0x13F, 0x2FC];
 
 /// The bit that makes a data word's low twelve bits an immediate.
@@ -35,7 +36,12 @@ pub fn data(condition: u32, operation: u32, s: u32, rn: u32, rd: u32, low: u32) 
 }
 
 pub fn mask(condition: u32, register: u32, low: u32) -> u32 {
-    data(condition, BIC, 0, register, register, IMMEDIATE | low)
+    mask_from(condition, register, register, low)
+}
+
+/// A mask of `rd` that reads `rn`.
+pub fn mask_from(condition: u32, rn: u32, rd: u32, low: u32) -> u32 {
+    data(condition, BIC, 0, rn, rd, IMMEDIATE | low)
 }
 
 pub fn test(condition: u32, register: u32, low: u32) -> u32 {
@@ -97,14 +103,18 @@ pub fn register_branch(condition: u32, call: bool, rm: u32) -> u32 {
 }
 
 /// The mask that would guard this word, were it an access or a register branch;
-/// for any other word a mask as good as any.
+/// for any other word a mask as good as any. It reads its own register, or r0 for
+/// r9 and r15, which no mask reads.
 pub fn guard(word: u32) -> u32 {
-    let condition = word >> 28;
-    let of_base = mask(condition, word >> 16 & 15, DATA_BITS[0]);
+    let of = |register, low| match register {
+        R9 | PC => mask_from(word >> 28, 0, register, low),
+        _ => mask(word >> 28, register, low),
+    };
+    let base = word >> 16 & 15;
     match word >> 20 & 0xFF {
-        0x40..=0x5F | 0x80..=0x9F => of_base,
-        0x04..=0x1F if word & 0x90 == 0x90 => of_base,
-        0x12 => mask(condition, word & 15, BRANCH_BITS[0]),
+        0x40..=0x5F | 0x80..=0x9F => of(base, DATA_BITS[0]),
+        0x04..=0x1F if word & 0x90 == 0x90 => of(base, DATA_BITS[0]),
+        0x12 => of(word & 15, BRANCH_BITS[0]),
         _ => mask(ALWAYS, 0, DATA_BITS[0]),
     }
 }

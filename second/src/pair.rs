@@ -1,10 +1,10 @@
 //! The pairs: two readings in adjacent slots of one bundle.
 
-use crate::word::{Class, Reading, PC, SP};
+use crate::word::{Class, Reading, PC, R9, SP};
 
-/// What a data mask clears and a test guard tests.
+/// What a data mask clears and a test guard tests, at least.
 const DATA_BITS: u32 = 0xC000_0000;
-/// What a branch mask clears.
+/// What a branch mask clears, at least.
 const BRANCH_BITS: u32 = 0xC000_000F;
 const EQUAL: u32 = 0;
 const ALWAYS: u32 = 14;
@@ -64,11 +64,20 @@ fn is_data_mask(reading: &Reading, register: u32) -> bool {
     is_mask(reading, register, DATA_BITS)
 }
 
-/// The value counts, not how it is rotated.
+/// A bic into the register. What reads r9 or r15 is no mask, not even of r9 or
+/// r15 itself.
 fn is_mask(reading: &Reading, register: u32, bits: u32) -> bool {
-    reading.cleared() == Some((register, bits))
+    let may_read = !matches!(reading.rn(), R9 | PC);
+    may_read && reading.rd() == register && holds(reading.cleared(), bits)
 }
 
 fn is_test(reading: &Reading, register: u32) -> bool {
-    reading.tested() == Some((register, DATA_BITS)) && reading.condition() == ALWAYS
+    let tests = reading.rn() == register && holds(reading.tested(), DATA_BITS);
+    tests && reading.condition() == ALWAYS
+}
+
+/// Whether all these bits are in a value, if there is one: the value counts,
+/// not how it is rotated.
+fn holds(value: Option<u32>, bits: u32) -> bool {
+    value.is_some_and(|value| value & bits == bits)
 }

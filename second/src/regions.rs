@@ -11,7 +11,6 @@ use std::ops::Range;
 pub const FREE: [u32; 13] = [0, 1, 2, 3, 4, 5, 6, 7, 8, 10, 11, 12, 14];
 /// The same as a list.
 pub const FREE_LIST: u32 = 0x5DFF;
-pub const SP: u32 = 13;
 
 /// The layout of "Words from the bench".
 pub const BENCH_LAYOUT: Layout = Layout {
@@ -86,7 +85,7 @@ fn item(rng: &mut Rng, room: usize, test_pairs: bool) -> Vec<u32> {
         }
         4 => free_access(rng, condition, SP),
         5 => literal(condition, rng.pick(&FREE), 0, 0),
-        6 => mask(condition, SP, rng.pick(&DATA_BITS)),
+        6 => some_mask(rng, condition, SP, &DATA_BITS),
         7 | 8 => branch(condition, room == 1 && rng.once_in(2), 0, 0),
         _ => some_data(rng, condition),
     }]
@@ -98,22 +97,37 @@ fn pair(rng: &mut Rng, last: bool, test_pairs: bool) -> [u32; 2] {
         0 => {
             let source = rng.pick(&FREE);
             let write = data(condition, MOV, 0, 0, SP, source);
-            [write, mask(condition, SP, rng.pick(&DATA_BITS))]
+            [write, some_mask(rng, condition, SP, &DATA_BITS)]
         }
         1 => {
             let call = last && rng.once_in(2);
-            let mask = mask(condition, register, rng.pick(&BRANCH_BITS));
+            let mask = some_mask(rng, condition, register, &BRANCH_BITS);
             [mask, register_branch(condition, call, register)]
         }
         5 => {
-            let test = test(ALWAYS, register, rng.pick(&DATA_BITS));
+            let test = test(ALWAYS, register, some_low(rng, &DATA_BITS));
             [test, free_access(rng, EQUAL, register)]
         }
         _ => {
-            let mask = mask(condition, register, rng.pick(&DATA_BITS));
+            let mask = some_mask(rng, condition, register, &DATA_BITS);
             [mask, free_access(rng, condition, register)]
         }
     }
+}
+
+/// A mask of a register, of the needed bits and as often of more, from another
+/// register and as often from its own; the latter is no mask of r9 or r15.
+pub fn some_mask(rng: &mut Rng, condition: u32, register: u32, needed: &[u32]) -> u32 {
+    let others = [rng.pick(&FREE), rng.pick(&FREE), SP];
+    let source = if rng.once_in(2) { register } else { rng.pick(&others) };
+    mask_from(condition, source, register, some_low(rng, needed))
+}
+
+/// The low twelve bits of a mask or test, of the needed bits and as often of
+/// more.
+pub fn some_low(rng: &mut Rng, needed: &[u32]) -> u32 {
+    let more = if rng.once_in(2) { rng.field(256) } else { 0 };
+    rng.pick(needed) | more
 }
 
 /// An access on a register, of others that are free.

@@ -1,9 +1,9 @@
 //! Every statement of document 01's "Words from the bench", in its order, and the
-//! words given for request 1 of document 02.
+//! words given for requests 1 and 3 of document 02.
 
 use crate::families::{patches::Call, Case};
 use crate::make::{padded, NOP as N};
-use crate::outcome::{Fault, Outcome, LENGTH};
+use crate::outcome::{Fault, Outcome, DISAGREEMENT, LENGTH};
 use crate::regions::BENCH_LAYOUT;
 
 /// A call, and what the papers say of it: the ledger afterwards, or the refusal.
@@ -12,8 +12,16 @@ pub struct Row<T> {
     pub says: Result<Vec<u32>, Outcome>,
 }
 
+const NOPS: [u32; 4] = [N; 4];
+/// No mask of r0, and so a plain access.
+const FROM_R9: [u32; 4] = [0xE3C9_0103, 0xE580_1000, N, N];
+/// Of r13: both stand alone.
+const TWO_MASKS: [u32; 4] = [0xE3C0_D103, 0xE3CD_D103, N, N];
+/// The closing mask of r13 is a branch mask of it too.
+const TWO_PAIRS: [u32; 4] = [0xE1A0_D000, 0xE3CD_D13F, 0xE12F_FF1D, N];
+
 pub fn checks() -> Vec<Row<Case>> {
-    [bench(), transfers()].into_iter().flatten().collect()
+    [bench(), transfers(), masks()].into_iter().flatten().collect()
 }
 
 fn bench() -> Vec<Row<Case>> {
@@ -80,20 +88,63 @@ fn transfers() -> Vec<Row<Case>> {
     ]
 }
 
-/// Of the region N N N EA000000, N N N N.
+/// Request 3: data masks, tests and branch masks, then masks of r13.
+fn masks() -> Vec<Row<Case>> {
+    let store = 0xE580_1000;
+    vec![
+        accepts(&[0xE3C0_013F, store], &[0, 1, 0, 0]),
+        accepts(&[0xE3C1_0103, store], &[0, 1, 0, 0]),
+        refuses(&[0xE3C0_1103, store], 7, 131_076),
+        refuses(&[0xE3C0_0102, store], 7, 131_076),
+        refuses(&FROM_R9, 5, 131_072),
+        accepts(&[0xE310_01FF, 0x0580_1000], &[0, 1, 0, 0]),
+        switched_off(refuses(&[0xE310_01FF, 0x0580_1000], 7, 131_076)),
+        accepts(&[0xE3C0_01FF, 0xE12F_FF10], &[0, 1, 0, 0]),
+        refuses(&[0xE3C0_010F, 0xE12F_FF10], 8, 131_076),
+        accepts(&[0xE3C0_D103], &[0, 0, 0, 0]),
+        accepts(&TWO_MASKS, &[0, 0, 0, 0]),
+        refuses(&TWO_PAIRS, 6, 131_080),
+    ]
+}
+
 pub fn patches() -> Vec<Row<Call>> {
-    let (branching, nops) = ([N, N, N, 0xEA00_0000], [N, N, N, N]);
+    [bench_patches(), mask_patches()].into_iter().flatten().collect()
+}
+
+/// Of the region N N N EA000000, N N N N.
+fn bench_patches() -> Vec<Row<Call>> {
+    let branching = [N, N, N, 0xEA00_0000];
     let pair = [0xE3C0_0103, 0xE580_1000, N, N];
     let [landed, empty, paired] = [4, 0, 1].map(|entry| [0, 0, 0, 0, 0, entry, 0, 0]);
-    let patch = |ledger, first, old, new, says| Row {
-        call: Call::new(BENCH_LAYOUT, ledger, first, old, new),
-        says,
-    };
     vec![
-        patch(&landed, 4, &nops, &pair, refusal(14, 131_092)),
-        patch(&landed, 0, &branching, &nops, Ok(empty.to_vec())),
-        patch(&empty, 4, &nops, &pair, Ok(paired.to_vec())),
+        patch(&landed, 4, &NOPS, &pair, refusal(14, 131_092)),
+        patch(&landed, 0, &branching, &NOPS, Ok(empty.to_vec())),
+        patch(&empty, 4, &NOPS, &pair, Ok(paired.to_vec())),
     ]
+}
+
+/// Request 3: the ledger must have the old bundle's roles by the new rule.
+fn mask_patches() -> Vec<Row<Call>> {
+    let to_nops = |old, ledger, says| patch(ledger, 0, old, &NOPS, says);
+    let disagrees = || Err(Outcome::refused(DISAGREEMENT));
+    vec![
+        to_nops(&TWO_MASKS, &[0, 1, 0, 0], disagrees()),
+        to_nops(&TWO_MASKS, &[0; 4], Ok(vec![0; 4])),
+        to_nops(&FROM_R9, &[0, 1, 0, 0], disagrees()),
+        to_nops(&FROM_R9, &[0; 4], Ok(vec![0; 4])),
+        to_nops(&TWO_PAIRS, &[0, 1, 0, 0], disagrees()),
+        to_nops(&TWO_PAIRS, &[0, 1, 1, 0], Ok(vec![0; 4])),
+    ]
+}
+
+fn patch(
+    ledger: &[u32],
+    first: usize,
+    old: &[u32],
+    new: &[u32],
+    says: Result<Vec<u32>, Outcome>,
+) -> Row<Call> {
+    Row { call: Call::new(BENCH_LAYOUT, ledger, first, old, new), says }
 }
 
 fn accepts(words: &[u32], ledger: &[u32]) -> Row<Case> {

@@ -4,10 +4,10 @@ use crate::bundle::{Word, SLOTS};
 use crate::layout::Region;
 use crate::outcome::*;
 use crate::pair::{needs_guard, needs_mask, Pair};
-use crate::word::{Class, Reading, PC, SP};
+use crate::word::{Class, Reading, PC, R9, SP};
 
 /// r9 and r15, in the form of `Reading::names`.
-const FORBIDDEN: u32 = 1 << 9 | 1 << PC;
+const FORBIDDEN: u32 = 1 << R9 | 1 << PC;
 
 /// The lowest number that the word in a slot breaks.
 pub fn broken(region: &Region, code: &[Word; SLOTS], slot: usize, address: u32) -> Option<u32> {

@@ -1,6 +1,7 @@
 //! Reading one word: the papers' classes, and nothing of slots or pairs.
 
 pub const NOP: u32 = 0xE320_F000;
+pub const R9: u32 = 9;
 pub const SP: u32 = 13;
 pub const PC: u32 = 15;
 
@@ -176,16 +177,14 @@ impl Reading {
         bit(self.word, 20)
     }
 
-    /// An immediate bic without S: the register it reads and writes, when that
-    /// is one, and the bits it clears.
-    pub fn cleared(&self) -> Option<(u32, u32)> {
-        let is_bic = self.is_immediate(BIC) && !self.sets_flags() && self.rd() == self.rn();
-        is_bic.then(|| (self.rd(), self.immediate()))
+    /// The bits that an immediate bic without S clears.
+    pub fn cleared(&self) -> Option<u32> {
+        (self.is_immediate(BIC) && !self.sets_flags()).then(|| self.immediate())
     }
 
-    /// An immediate tst: the register and the bits it tests.
-    pub fn tested(&self) -> Option<(u32, u32)> {
-        self.is_immediate(TST).then(|| (self.rn(), self.immediate()))
+    /// The bits that an immediate tst tests.
+    pub fn tested(&self) -> Option<u32> {
+        self.is_immediate(TST).then(|| self.immediate())
     }
 
     fn is_immediate(&self, operation: u32) -> bool {

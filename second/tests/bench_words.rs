@@ -1,5 +1,5 @@
 //! Every statement of document 01's "Words from the bench", and the words given
-//! for request 1 of document 02.
+//! for requests 1 and 3 of document 02.
 
 mod common;
 

@@ -8,7 +8,6 @@ use second::{check, Layout, Outcome};
 
 const N: u32 = NOP;
 const START: u32 = 131_072;
-const SP: u32 = 13;
 
 /// The answer for code of nops under a layout.
 fn under(layout: Layout, code_len: usize, entries: usize) -> Outcome {
@@ -54,7 +53,8 @@ fn refusals_by_address_then_number() {
     // A call out of place and astray: 9 before 11.
     refuses(&[branch(ALWAYS, true, START, 0)], 9, START);
     // The branch's fault comes first although the other word's role makes it.
-    refuses(&[branch(ALWAYS, false, START, 131_080), mask(14, 9, 0x103), 0xE589_1000], 11, START);
+    let inner = [mask_from(14, 0, 9, 0x103), 0xE589_1000];
+    refuses(&[branch(ALWAYS, false, START, 131_080), inner[0], inner[1]], 11, START);
 }
 
 #[test]
@@ -123,14 +123,14 @@ fn writes_of_r13() {
         register_branch(14, false, SP),
         data(14, MOV, 0, 0, SP, 1),        // nothing next
         data(14, 4, 1, SP, SP, IMMEDIATE), // sets flags
-        mask(14, SP, 0x13F),               // a branch mask is no data mask
+        mask(14, SP, 0x102),               // bit 31 alone
         data(14, BIC, 1, SP, SP, IMMEDIATE | 0x103),
     ] {
         refuses(&[word], 6, START);
     }
     // Closed by a data mask with the same condition, in the same bundle.
     accepts(&[data(3, 4, 0, 1, SP, 2), mask(3, SP, 0x4C0)], &[0, 1, 0, 0]);
-    accepts(&[mask(14, SP, 0x13F), closing], &[0, 1, 0, 0]);
+    accepts(&[mask(14, SP, 0x102), closing], &[0, 1, 0, 0]);
     refuses(&[data(3, 4, 0, 1, SP, 2), closing], 6, START);
     refuses(&[N, N, N, data(14, MOV, 0, 0, SP, 1), closing], 6, START + 12);
     // A data mask of r13 stands alone, and of two the second is plain.
@@ -161,18 +161,16 @@ fn guards_of_an_access() {
     for first in [
         mask(14, 3, 0x103),                        // another register
         mask(0, 2, 0x103),                         // another condition
-        mask(14, 2, 0x13F),                        // a branch mask
-        mask(14, 2, 0x102),                        // another value
+        mask(14, 2, 0x102),                        // bit 31 alone
         data(14, BIC, 1, 2, 2, IMMEDIATE | 0x103), // S
-        data(14, BIC, 0, 3, 2, IMMEDIATE | 0x103), // Rn is not Rd
-        data(14, BIC, 0, 2, 3, IMMEDIATE | 0x103),
-        data(14, BIC, 0, 2, 2, 3), // no immediate
-        test(14, 2, 0x103),        // the condition is not 0
+        mask_from(14, 2, 3, 0x103),                // from r2 into another
+        data(14, BIC, 0, 2, 2, 3),                 // no immediate
+        test(14, 2, 0x103),                        // the condition is not 0
         N,
     ] {
         refuses(&[first, store(14, 2)], 7, START + 4);
     }
-    refuses(&[test(14, 2, 0x13F), store(0, 2)], 7, START + 4);
+    refuses(&[test(14, 2, 0x102), store(0, 2)], 7, START + 4);
     // One mask, one access; and the mask comes first.
     refuses(&[mask(14, 2, 0x103), store(14, 2), store(14, 2)], 7, START + 8);
     refuses(&[store(14, 2), mask(14, 2, 0x103)], 7, START);
@@ -200,13 +198,13 @@ fn roles_do_not_heed_the_switch_or_other_faults() {
     let tested = [to(2), test(14, 2, 0x103), access(0, P, 2, 1, 0)];
     assert_eq!(answer(&off, &tested), Err(refused_at(11, START)));
     // An access on r9 behind its mask is inner, though both break rule 5.
-    refuses(&[to(2), mask(14, 9, 0x103), access(14, P, 9, 1, 0)], 11, START);
-    refuses(&[to(1), mask(14, 9, 0x103), access(14, P, 9, 1, 0)], 5, START + 4);
+    refuses(&[to(2), mask_from(14, 0, 9, 0x103), access(14, P, 9, 1, 0)], 11, START);
+    refuses(&[to(1), mask_from(14, 0, 9, 0x103), access(14, P, 9, 1, 0)], 5, START + 4);
     // A register branch on r13 or r15 behind its mask is inner too.
     refuses(&[to(2), mask(14, SP, 0x13F), register_branch(14, false, SP)], 11, START);
-    refuses(&[to(2), mask(14, 15, 0x13F), register_branch(14, false, 15)], 11, START);
+    refuses(&[to(2), mask_from(14, 0, 15, 0x13F), register_branch(14, false, 15)], 11, START);
     // Accesses on r13 and r15 are plain.
-    refuses(&[to(2), mask(14, 15, 0x103), access(14, P, 15, 1, 0)], 5, START + 4);
+    refuses(&[to(2), mask_from(14, 0, 15, 0x103), access(14, P, 15, 1, 0)], 5, START + 4);
     // With S the two make no pair, so the mask is plain and 6 comes second.
     refuses(&[to(2), data(14, MOV, 1, 0, SP, 1), mask(14, SP, 0x103)], 6, START + 4);
     // A word in no class is plain.

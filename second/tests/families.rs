@@ -1,11 +1,12 @@
-//! The families make what request 1 adds: half accesses and multiple transfers,
-//! sound and with but one thing wrong.
+//! The families make what requests 1 and 3 add, sound and with but one thing
+//! wrong: here half accesses and multiple transfers, beside this file masks.
 
 mod common;
+mod masks;
 
-use common::{answer, answer_to_bytes};
+use common::{answer_to_bytes, mended};
 use second::families::{of_patches, of_regions, Case};
-use second::make::{words, B, I, L, P, W};
+use second::make::{words, B, I, L, NOP, P, W};
 use second::Outcome;
 use std::collections::BTreeMap;
 
@@ -76,44 +77,46 @@ fn with(word: u32, place: u32, field: u32) -> u32 {
 
 /// How often each kind of word was met.
 #[derive(Default)]
-struct Met(BTreeMap<&'static str, usize>);
+struct Met(BTreeMap<String, usize>);
 
 impl Met {
-    fn meet(&mut self, name: &'static str) {
-        *self.0.entry(name).or_default() += 1;
+    fn meet(&mut self, name: &str) {
+        *self.0.entry(name.to_string()).or_default() += 1;
     }
 
     fn accepted(&mut self, words: &[u32], ledger: &[u32]) {
+        let mut before = NOP;
         for (&word, entry) in words.iter().zip(ledger) {
             let kinds = SOUND.iter().filter(|(_, is)| is(word, entry % 4));
             kinds.for_each(|(name, _)| self.meet(name));
+            masks::sound(before, word, entry % 4).iter().for_each(|name| self.meet(name));
+            before = word;
         }
     }
 
     /// Counts a near miss only where it alone keeps the region out.
     fn refused(&mut self, case: &Case, number: u32, address: u32) {
-        let mut code = words(&case.code);
         let place = (address - case.layout.code_start) as usize / 4;
-        let word = code[place];
+        let word = words(&case.code)[place];
         for (name, _, _, mend) in NEAR.iter().filter(|near| near.1 == number && near.2(word)) {
-            code[place] = mend(word);
-            if answer(&case.layout, &code).is_ok() {
+            if mended(case, place, mend(word)) == Outcome::Accepted {
                 self.meet(name);
             }
         }
+        masks::near(case, number, place).iter().for_each(|name| self.meet(name));
     }
 
-    fn has(&self, names: impl Iterator<Item = &'static str>) {
+    fn has(&self, least: usize, names: impl Iterator<Item = String>) {
         for name in names {
-            assert!(self.0.get(name).is_some_and(|&times| times > 20), "{name}: {:?}", self.0);
+            assert!(self.0.get(&name).is_some_and(|&met| met >= least), "{name}: {:?}", self.0);
         }
     }
 }
 
-#[test]
-fn regions() {
+/// What some families make in their share of so many regions.
+fn met_in(count: u64, is: impl Fn(&str) -> bool) -> Met {
     let mut met = Met::default();
-    for (family, mut rng, share) in of_regions(1, 40_000) {
+    for (family, mut rng, share) in of_regions(1, count).filter(|family| is(family.0.name)) {
         for _ in 0..share {
             let case = (family.make)(&mut rng);
             match answer_to_bytes(&case.layout, &case.code) {
@@ -125,21 +128,43 @@ fn regions() {
             }
         }
     }
-    met.has(SOUND.iter().map(|kind| kind.0).chain(NEAR.iter().map(|kind| kind.0)));
+    met
+}
+
+#[test]
+fn regions() {
+    let met = met_in(40_000, |_| true);
+    let transfers = SOUND.iter().map(|kind| kind.0).chain(NEAR.iter().map(|kind| kind.0));
+    met.has(20, transfers.map(str::to_string));
+    met.has(1_500, masks::sound_names());
+}
+
+#[test]
+fn pairs() {
+    met_in(120_000, |name| name == "pairs").has(20, masks::near_names());
+}
+
+#[test]
+fn guards() {
+    let met = met_in(60_000, |name| name == "edges" || name == "transfers");
+    met.has(20, masks::guard_names());
 }
 
 #[test]
 fn patches() {
     let mut met = Met::default();
-    for (family, mut rng, share) in of_patches(1, 2_000) {
+    for (family, mut rng, share) in of_patches(1, 4_000) {
         for call in (0..share).flat_map(|_| (family.make)(&mut rng)) {
             let (outcome, after) = call.answer();
             if outcome == Outcome::Accepted {
                 met.accepted(&words(&call.new), &after.ledger[call.offset / 4..]);
             }
+            masks::old(&call, outcome.number()).iter().for_each(|name| met.meet(name));
         }
     }
     // Regions to order store no r13, and other patches are seldom accepted.
-    let names = SOUND.iter().map(|kind| kind.0);
-    met.has(names.filter(|&name| name != "halfword store of r13"));
+    let transfers = SOUND.iter().map(|kind| kind.0).filter(|&name| name != "halfword store of r13");
+    met.has(20, transfers.map(str::to_string));
+    met.has(20, masks::old_names());
+    met.has(500, masks::sound_names());
 }

@@ -69,7 +69,7 @@ fn bench_rows() {
         assert_eq!(line_for(&row.call.code), says, "{:02X?}", row.call.code);
         rows += 1;
     }
-    assert!(rows > 40);
+    assert!(rows > 55);
 }
 
 #[test]

@@ -179,3 +179,33 @@ fn stranded_branches() {
     let odd = State::checked(&[N; 8]).with_entry(6, 4 + 1);
     assert_eq!(odd.patch(0, &[N]).unwrap().1, odd.ledger);
 }
+
+#[test]
+fn ledgers_from_before_request_3() {
+    for first in [mask_from(14, 0, SP, 0x103), mask(14, SP, 0x13F)] {
+        let state = State::checked(&[first, mask(14, SP, 0x103), N, N, N]);
+        assert_eq!(state.ledger, [0; 8]);
+        assert_eq!(state.patch(0, &[N]).unwrap().1, [0; 8]);
+        assert_eq!(state.patch(4, &[to(4, 1)]).unwrap().1, [0, 4, 0, 0, 0, 0, 0, 0]);
+        // The second mask closed the first, which was not exact.
+        let old = state.with_entry(1, 1);
+        assert_eq!(old.patch(0, &[N]), Err(refused(13)));
+        assert_eq!(old.patch(0, &old.code[..4]), Err(refused(13)));
+        // Outside the patch it is believed still.
+        assert_eq!(old.patch(4, &[N]).unwrap().1, old.ledger);
+        assert_eq!(old.patch(4, &[to(4, 1)]), Err(refused_at(11, START + 16)));
+    }
+}
+
+#[test]
+fn stranded_by_wider_masks() {
+    let state = State::checked(&[to(0, 5), N, N, N, N]);
+    let store = access(14, P, 0, 1, 0);
+    for first in [mask(14, 0, 0x13F), mask_from(14, 1, 0, 0x103)] {
+        assert_eq!(state.patch(4, &[first, store]), Err(refused_at(14, START + 20)));
+    }
+    assert_eq!(state.patch(4, &[mask(14, 0, 0x102), store]), Err(refused_at(7, START + 20)));
+    // Nobody is stranded on the second of two masks of r13.
+    let masks = [mask_from(14, 0, SP, 0x103), mask(14, SP, 0x103)];
+    assert_eq!(state.patch(4, &masks).unwrap().1, state.ledger);
+}

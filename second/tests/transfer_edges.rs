@@ -7,7 +7,6 @@ use second::make::*;
 use second::Layout;
 
 const START: u32 = 131_072;
-const SP: u32 = 13;
 const HALF: u32 = 1;
 const SIGNED_BYTE: u32 = 2;
 const SIGNED_HALF: u32 = 3;
@@ -127,7 +126,7 @@ fn guards() {
             mask(14, 3, 0x103), // another register
             mask(14, 1, 0x103), // what moves, not the base
             mask(0, 2, 0x103),  // another condition
-            mask(14, 2, 0x13F), // a branch mask
+            mask(14, 2, 0x102), // bit 31 alone
             test(14, 2, 0x103), // the condition is not 0
             NOP,
         ] {
@@ -153,7 +152,7 @@ fn roles() {
         assert_eq!(answer(&off, &tested[1..]), Err(refused_at(7, START + 4)));
     }
     // On r9 they are inner behind a mask, though both words break rule 5.
-    refuses(&[to, mask(14, 9, 0x103), multiple(14, L, 9, 1)], 11, START);
+    refuses(&[to, mask_from(14, 0, 9, 0x103), multiple(14, L, 9, 1)], 11, START);
     // Out of their classes they are plain.
     refuses(&[to, mask(14, 2, 0x103), multiple(14, L, 2, 0)], 4, START + 8);
     refuses(&[to, mask(14, 2, 0x103), half_access(14, P, HALF, 2, 1, 0)], 4, START + 8);

@@ -10,7 +10,7 @@ use Rattle.rules.specs.Outcome.{Verdict, accepted, refused, refusedAt}
 use Rattle.decoder.specs.Bundle.{headWord, headReading, literalReading, readingsOf}
 use Rattle.pairs.specs.Role.{roleAlone, roleAfter, rolesOf}
 use Rattle.decoder.specs.Immediate.{rotated, valueOf}
-use Rattle.pairs.specs.Mask.{dataMaskValue, branchMaskValue, immediateIs, isMask, isDataMask, isBranchMask, isTest}
+use Rattle.pairs.specs.Mask.{immediateOf, clearedBits, isDataMask, isBranchMask, testedBits, isTest}
 use Rattle.pairs.specs.Pair.{canBeGuarded, maskGuards, testGuards, branchGuards, closes, isPair}
 use Rattle.decoder.specs.Place.{behind, signedStep, targetOf, literalOf}
 use Rattle.decoder.specs.Question.{operandNames, names, baseOf, branchRegister, writesSp, keepsFlags, takesSp, isCall, isUnlisted}
@@ -100,20 +100,27 @@ more =
     ∷ patches (20 ∷ 0 ∷ 0 ∷ 0 ∷ []) 0 (N ∷ N ∷ N ∷ N ∷ []) (N ∷ N ∷ N ∷ N ∷ []) (refused 13) (20 ∷ 0 ∷ 0 ∷ 0 ∷ [])
     ∷ []
 
--- multiple transfers, then halfwords and signed bytes: the request's words, and three more. One stands alone, or behind a guard
--- of r0
+-- one word alone, or two of which the second is inner or refused
 abbrev alone : ℕ → Row
 alone w = checks true (w ∷ N ∷ N ∷ N ∷ []) accepted (0 ∷ 0 ∷ 0 ∷ 0 ∷ [])
-
-abbrev guarded : ℕ → Row
-guarded w = checks true (0xE3C0_0103 ∷ w ∷ N ∷ N ∷ []) accepted (0 ∷ 1 ∷ 0 ∷ 0 ∷ [])
 
 abbrev refusedAlone : ℕ → ℕ → Row
 refusedAlone w n = checks true (w ∷ N ∷ N ∷ N ∷ []) (refusedAt n 131072) kept
 
-abbrev refusedGuarded : ℕ → ℕ → Row
-refusedGuarded w n = checks true (0xE3C0_0103 ∷ w ∷ N ∷ N ∷ []) (refusedAt n 131076) kept
+abbrev paired : ℕ → ℕ → Row
+paired a b = checks true (a ∷ b ∷ N ∷ N ∷ []) accepted (0 ∷ 1 ∷ 0 ∷ 0 ∷ [])
 
+abbrev refusedSecond : ℕ → ℕ → ℕ → Row
+refusedSecond a b n = checks true (a ∷ b ∷ N ∷ N ∷ []) (refusedAt n 131076) kept
+
+-- behind a guard of r0
+abbrev guarded : ℕ → Row
+guarded w = paired 0xE3C0_0103 w
+
+abbrev refusedGuarded : ℕ → ℕ → Row
+refusedGuarded w n = refusedSecond 0xE3C0_0103 w n
+
+-- multiple transfers, then halfwords and signed bytes: the request's words, and three more
 abbrev pub transfers : List Row
 transfers =
     alone 0xE92D_4010
@@ -136,15 +143,35 @@ transfers =
     ∷ refusedAlone 0xE1DF_10B4 5
     ∷ refusedGuarded 0xE1D0_D0B0 6
     ∷ refusedAlone 0xE0F0_10B2 4
-    ∷ checks true (0xE310_0103 ∷ 0x01D0_10B0 ∷ N ∷ N ∷ []) accepted (0 ∷ 1 ∷ 0 ∷ 0 ∷ [])
+    ∷ paired 0xE310_0103 0x01D0_10B0
     ∷ refusedAlone 0xE99F_0001 5
     ∷ guarded 0xE1C0_10B0
     ∷ refusedGuarded 0xE1D0_90B0 5
     ∷ []
 
-words : (map computed marked ≡ map given marked) × (map computed more ≡ map given more) × (map computed transfers ≡ map given transfers)
-unfolding headWord headReading literalReading readingsOf roleAlone roleAfter rolesOf rotated valueOf dataMaskValue branchMaskValue immediateIs isMask isDataMask isBranchMask isTest canBeGuarded maskGuards testGuards branchGuards closes isPair behind signedStep targetOf literalOf operandNames names baseOf branchRegister writesSp keepsFlags takesSp isCall isUnlisted isCompare isMove isData operandOf dataFields isHalfMove isNop isMultiply multiplyFields isAnyAccess isLiteralLoad isAccess accessFields isBranch isRegisterBranch kindOf readingOf sandboxEnd codeLimit layoutHolds lengthHolds rule4 rule5 rule6 wantsGuard rule7 rule8 rule9 literalHolds rule10 wordAtAddress landingOf inTrampolines landable rule11 rulesOf lowestFrom faultOf codeFault wordsVerdict checkVerdict entryOf ledgerOf sum firstFrom listFrom listOf wordAt bundleWords bundleAt readingAt beforeAt nextAt roleAt targetAt landingAt landings targetRole faultAt roleFrom standingFault all shapeHolds countsHold rolesAgree oldCounted countLess newFit strandedAt agrees strandedVerdict newWordsVerdict bundlesVerdict patchVerdict movedEntry movedLedger ledgerAfter
-words = (refl, refl, refl)
+-- masks that clear more: the request's words; a bundle whose ledger is of the old rule, then of this one; and a closing mask that makes
+-- a register branch on r13 inner
+abbrev pub wider : List Row
+wider =
+    paired 0xE3C0_013F 0xE580_1000
+    ∷ paired 0xE3C1_0103 0xE580_1000
+    ∷ refusedSecond 0xE3C0_1103 0xE580_1000 7
+    ∷ refusedSecond 0xE3C0_0102 0xE580_1000 7
+    ∷ checks true (0xE3C9_0103 ∷ 0xE580_1000 ∷ N ∷ N ∷ []) (refusedAt 5 131072) kept
+    ∷ alone 0xE3C0_D103
+    ∷ paired 0xE310_01FF 0x0580_1000
+    ∷ checks false (0xE310_01FF ∷ 0x0580_1000 ∷ N ∷ N ∷ []) (refusedAt 7 131076) kept
+    ∷ paired 0xE3C0_01FF 0xE12F_FF10
+    ∷ refusedSecond 0xE3C0_010F 0xE12F_FF10 8
+    ∷ checks true (0xE3C0_D103 ∷ 0xE3CD_D103 ∷ N ∷ N ∷ []) accepted (0 ∷ 0 ∷ 0 ∷ 0 ∷ [])
+    ∷ patches (0 ∷ 1 ∷ 0 ∷ 0 ∷ []) 0 (0xE3C0_D103 ∷ 0xE3CD_D103 ∷ N ∷ N ∷ []) (N ∷ N ∷ N ∷ N ∷ []) (refused 13) (0 ∷ 1 ∷ 0 ∷ 0 ∷ [])
+    ∷ patches (0 ∷ 0 ∷ 0 ∷ 0 ∷ []) 0 (0xE3C0_D103 ∷ 0xE3CD_D103 ∷ N ∷ N ∷ []) (N ∷ N ∷ N ∷ N ∷ []) accepted (0 ∷ 0 ∷ 0 ∷ 0 ∷ [])
+    ∷ checks true (0xE1A0_D000 ∷ 0xE3CD_D13F ∷ 0xE12F_FF1D ∷ N ∷ []) (refusedAt 6 131080) kept
+    ∷ []
+
+words : (map computed marked ≡ map given marked) × (map computed more ≡ map given more) × (map computed transfers ≡ map given transfers) × (map computed wider ≡ map given wider)
+unfolding headWord headReading literalReading readingsOf roleAlone roleAfter rolesOf rotated valueOf immediateOf clearedBits isDataMask isBranchMask testedBits isTest canBeGuarded maskGuards testGuards branchGuards closes isPair behind signedStep targetOf literalOf operandNames names baseOf branchRegister writesSp keepsFlags takesSp isCall isUnlisted isCompare isMove isData operandOf dataFields isHalfMove isNop isMultiply multiplyFields isAnyAccess isLiteralLoad isAccess accessFields isBranch isRegisterBranch kindOf readingOf sandboxEnd codeLimit layoutHolds lengthHolds rule4 rule5 rule6 wantsGuard rule7 rule8 rule9 literalHolds rule10 wordAtAddress landingOf inTrampolines landable rule11 rulesOf lowestFrom faultOf codeFault wordsVerdict checkVerdict entryOf ledgerOf sum firstFrom listFrom listOf wordAt bundleWords bundleAt readingAt beforeAt nextAt roleAt targetAt landingAt landings targetRole faultAt roleFrom standingFault all shapeHolds countsHold rolesAgree oldCounted countLess newFit strandedAt agrees strandedVerdict newWordsVerdict bundlesVerdict patchVerdict movedEntry movedLedger ledgerAfter
+words = (refl, refl, refl, refl)
 
 pub bench-words : map computed marked ≡ map given marked
 bench-words = words .0
@@ -154,3 +181,6 @@ more-words = words .1
 
 pub transfer-words : map computed transfers ≡ map given transfers
 transfer-words = words .2
+
+pub wider-words : map computed wider ≡ map given wider
+wider-words = words .3

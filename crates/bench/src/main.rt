@@ -1,7 +1,7 @@
-// The paper's words from the bench, then those of multiple transfers and halfwords, run through the
-// calls and, row by row, printed: what a call answers, and the ledger where it accepts. The set that
-// the paper marks and the words of transfers are proved besides, as tables over the definitions
-// (proofs/Table.antt).
+// The paper's words from the bench, then those of multiple transfers, halfwords and wider masks, run
+// through the calls and, row by row, printed: what a call answers, and the ledger where it accepts.
+// The set that the paper marks and the words of the requests are proved besides, as tables over the
+// definitions (proofs/Table.antt).
 use checker::check::check;
 use checker::patch::patch;
 use libc::STDOUT_FILENO;
@@ -213,6 +213,21 @@ fn halfwords() {
     bundle(0xE310_0103, 0x01D0_10B0, N, N);
 }
 
+fn wider_masks() {
+    bundle(0xE3C0_013F, 0xE580_1000, N, N);
+    bundle(0xE3C1_0103, 0xE580_1000, N, N);
+    bundle(0xE3C0_1103, 0xE580_1000, N, N);
+    bundle(0xE3C0_0102, 0xE580_1000, N, N);
+    bundle(0xE3C9_0103, 0xE580_1000, N, N);
+    bundle(0xE3C0_D103, N, N, N);
+    bundle(0xE310_01FF, 0x0580_1000, N, N);
+    one(0xE310_01FF, 0x0580_1000, N, N, false);
+    bundle(0xE3C0_01FF, 0xE12F_FF10, N, N);
+    bundle(0xE3C0_010F, 0xE12F_FF10, N, N);
+    bundle(0xE3C0_D103, 0xE3CD_D103, N, N);
+    bundle(0xE1A0_D000, 0xE3CD_D13F, 0xE12F_FF1D, N);
+}
+
 // One bundle patched; the ledger afterwards.
 fn patched(ledger: [u32; 8], offset: usize, old: [u8; 16], new: [u8; 16]) -> [u32; 8] {
     let mut after = ledger;
@@ -239,6 +254,14 @@ fn patches() {
     patched(freed, 16, nops, access);
 }
 
+// Two bundles, the first of which has a ledger of another edition of the rules, and then its own.
+fn old_ledger() {
+    let nops = first_half(with_bundle([0u8; 32], 0, N, N, N, N));
+    let sp = first_half(with_bundle([0u8; 32], 0, 0xE3C0_D103, 0xE3CD_D103, N, N));
+    patched([0, 1, 0, 0, 0, 0, 0, 0], 0, sp, nops);
+    patched([0, 0, 0, 0, 0, 0, 0, 0], 0, sp, nops);
+}
+
 fn main() {
     masks();
     branches();
@@ -246,7 +269,9 @@ fn main() {
     literals();
     multiple_transfers();
     halfwords();
+    wider_masks();
     patches();
+    old_ledger();
     length_0();
     length_15();
     length_65552();

@@ -1,7 +1,7 @@
 -- Demands 1 and 2, over the definitions alone. Under a layout and lengths that the paper allows, a region is accepted exactly when every
 -- word in it meets the rules; otherwise the answer is the lowest address that breaks one, with the lowest number there; and the ledger
 -- of an accepted region holds, for each word, its role and the number of direct branches that land on it.
-use Prim.Native.Nat.{ℕ, zero, suc, _+_, _-_, _*_, _/_, _%_, _≤_, _<_}
+use Prim.Native.Nat.{ℕ, _+_, _*_, _/_, _≤_, _<_}
 use native.Mathlib.Nat.{zero-add}
 use native.Mathlib.Omega.{arith}
 use mathlib.Core.Path.{_≡_, _∙_, refl, sym, ap, subst}
@@ -11,12 +11,7 @@ use mathlib.Core.List.{List}
 use lib.Dec.{ltb}
 use lib.ListN.{length, getD}
 use borrow.Author.Tests.{eq-eqb, ne-eqb, lt-ltb, le-ltb, ltb-true, ltb-false}
-use Rattle.pairs.specs.Role.{plain, inner, rolesOf}
-use Rattle.pairs.specs.Pair.{isPair}
 use Rattle.decoder.proofs.Bools.{by-test}
-use Rattle.pairs.proofs.Roles.{slot-0-never-inner}
-use Rattle.pairs.proofs.Plain.{plain-before-inner}
-use Rattle.pairs.proofs.Apart.{no-two-pairs}
 use Rattle.rules.specs.declared.layout.Layout.{Layout}
 use Rattle.rules.specs.declared.outcome.Outcome.{Outcome}
 use Rattle.rules.specs.Layout.{layoutHolds, lengthHolds, addressOf}
@@ -24,7 +19,7 @@ use Rattle.rules.specs.Outcome.{Verdict, accepted, refused, refusedAt, verdictO
 use Rattle.rules.proofs.Reasons.{verdict-tells}
 use Rattle.rules.proofs.Lowest.{fault-none, none-fault, lowest, lowest-is}
 use Rattle.checker.specs.Lists.{firstFrom}
-use Rattle.checker.specs.Region.{bundleWords, bundleAt, readingAt, beforeAt, nextAt, roleAt}
+use Rattle.checker.specs.Region.{roleAt}
 use Rattle.checker.specs.Standing.{landings, faultAt, breaksAt}
 use Rattle.checker.specs.Check.{wordsOf, codeFault, wordBreaks, wordsVerdict, checkVerdict, entryOf, ledgerOf, ledgerAfter, Checked}
 use Rattle.checker.specs.Patch.{movedLedger, patchVerdict, Patched}
@@ -180,27 +175,6 @@ module _ (l : Layout) (code : List ℕ) where
     pub order-3 : layoutHolds l (length code) ≡ true → lengthHolds (length code) ≡ true → (entries ≡ wordsOf code → ⊥) → checkVerdict l code entries ≡ refused 3
     unfolding checkVerdict
     order-3 e1 e2 d = simp (e1, e2, ne-eqb entries (wordsOf code) d)
-
--- ---- Of any region, and so of an accepted one
-
--- the word before an inner word is plain, and lies in the same bundle
-pub inner-follows-plain : (code : List ℕ) (k : ℕ) → roleAt code k ≡ inner → (0 < k % 4) × (roleAt code (k - 1) ≡ plain)
-unfolding roleAt bundleAt bundleWords
-inner-follows-plain code k e = go (k % 4) refl
-  where
-    go : (s : ℕ) → k % 4 ≡ s → (0 < k % 4) × (roleAt code (k - 1) ≡ plain)
-    go zero m = absurd (slot-0-never-inner (bundleAt code (k / 4)) (subst (λ (x : ℕ). getD (rolesOf (bundleAt code (k / 4))) x 0 ≡ inner) m e))
-    go (suc s) m =
-        let small : s < 3 = omega arith in
-        let d : (k - 1) / 4 ≡ k / 4 = omega arith in
-        let r : (k - 1) % 4 ≡ s = omega arith in (
-          omega arith,
-          rw (d, r) (plain-before-inner _ _ _ _ s small (subst (λ (x : ℕ). getD (rolesOf (bundleAt code (k / 4))) x 0 ≡ inner) m e)),
-        )
-
--- no word is in two pairs
-pub in-one-pair : (code : List ℕ) (k : ℕ) → isPair (beforeAt code k) (readingAt code k) ≡ true → isPair (readingAt code k) (nextAt code k) ≡ true → ⊥
-in-one-pair code k = no-two-pairs (beforeAt code k) (readingAt code k) (nextAt code k)
 
 -- ---- Demand 1: what the check promises is one answer and one ledger, for all inputs
 

@@ -2,7 +2,7 @@
 -- check of the edited region accepts, with the ledger that it writes; and never 13.
 use Prim.Native.Nat.{ℕ, _+_, _-_, _*_, _/_, _%_, _≤_, _<_}
 use native.Mathlib.Omega.{arith}
-use mathlib.Core.Path.{_≡_, _∙_, refl, sym, ap, ap₂, subst}
+use mathlib.Core.Path.{_≡_, _∙_, sym, ap, ap₂, subst}
 use mathlib.Core.Logic.{_↔_}
 use mathlib.Core.Bool.{true, cond}
 use mathlib.Core.List.{List}
@@ -23,14 +23,12 @@ use Rattle.checker.specs.Edit.{Fits}
 use Rattle.checker.proofs.First.{first-miss, first-none}
 use Rattle.checker.proofs.Lists.{split, all-yes, list-is, list-length, list-at}
 use Rattle.checker.proofs.Checks.{landings-most}
-use Rattle.checker.proofs.Demands.{accepted-exactly, fault-meets, meets-fault, order-1, order-2, ledger-entries}
+use Rattle.checker.proofs.Demands.{accepted-exactly, fault-meets, meets-fault, ledger-entries}
+use Rattle.checker.proofs.Accepted.{refused-not, layout-held, length-held, all-meet}
 use Rattle.checker.proofs.Placed.{Placed, Parts, parts}
 use Rattle.checker.proofs.Edited.{role-same, edited-length}
 use Rattle.checker.proofs.Recount.{old-length, word-old, counted-before, counted-after, below-outside, above-outside}
 use Rattle.checker.proofs.Refresh.{words-after, count-is, role-is, less-is, roles-are, inside-fault, outside-meets, none-stranded}
-
-pub refused-not : (a : ℕ) → refused a ≡ accepted → ⊥
-refused-not a e = let z : _≡_ {A = ℕ} 1 0 = cc in omega arith
 
 pub refused-at-not : (a b : ℕ) → refusedAt a b ≡ accepted → ⊥
 refused-at-not a b e = let z : _≡_ {A = ℕ} 1 0 = cc in omega arith
@@ -56,10 +54,10 @@ module _ (l : Layout) (code : List ℕ) (is-accepted : checkVerdict l code (word
   open Parts (parts l code offset new) using (n, first, m, old, after, ledger, less, fault, strand)
 
   e1 : layoutHolds l (length code) ≡ true
-  e1 = by-test (layoutHolds l (length code)) (λ t. t) (λ t. absurd (refused-not 1 (sym (order-1 l code n t) ∙ is-accepted)))
+  e1 = layout-held l code n is-accepted
 
   e2 : lengthHolds (length code) ≡ true
-  e2 = by-test (lengthHolds (length code)) (λ t. t) (λ t. absurd (refused-not 2 (sym (order-2 l code n e1 t) ∙ is-accepted)))
+  e2 = length-held l code n is-accepted
 
   all-whole : length code % 16 ≡ 0
   all-whole = length-says (length code) e2 .whole
@@ -68,7 +66,7 @@ module _ (l : Layout) (code : List ℕ) (is-accepted : checkVerdict l code (word
   placed = record { whole = fit .whole; at = fit .at; all-whole = all-whole; fits = fit .inside }
 
   no-fault : (j : ℕ) → j < n → codeFault l code j ≡ 0
-  no-fault j h = meets-fault l code j (accepted-exactly l code n e1 e2 refl .0 is-accepted j h)
+  no-fault j h = meets-fault l code j (all-meet l code n is-accepted j h)
 
   ledger-length : length ledger ≡ n
   ledger-length = ledger-entries l code .0

@@ -2,7 +2,7 @@
 -- of each kind on the list then holds of the kind: `others` asks a proof for those, and `tt` for the rest.
 use Prim.Native.Nat.{ℕ}
 use mathlib.Core.Path.{_≡_, refl}
-use mathlib.Core.Bool.{Bool, true, false, not, false≢true}
+use mathlib.Core.Bool.{Bool, true, false, not}
 use mathlib.Core.List.{List, [], _∷_}
 use lib.Dec.{T}
 use mir.Val.{hasKey}
@@ -76,16 +76,16 @@ module _ {A : Type 0} where
   other-register-branch f o k h =
       others (0 ∷ 1 ∷ 2 ∷ 3 ∷ 4 ∷ 5 ∷ 6 ∷ 7 ∷ 9 ∷ 10 ∷ []) (λ k. o ≡ ofRegisterBranch f o k) refl (λ _. refl) (λ _ _ _. refl) refl (λ _. refl) (λ _. refl) (λ _ _ _. refl) (λ _ _. refl) tt refl (λ _. refl) k h
 
--- a yes of a question of data words alone: the word is a data word, and its fields say yes
-pub from-data : (f : DataFields → Bool) (k : Kind) → ofData f false k ≡ true → (g : DataFields) × (k ≡ Data g) × (f g ≡ true)
-from-data f (Data g) e = (g, refl, e)
-from-data f Unlisted e = absurd (false≢true e)
-from-data f (HalfMove top rd number) e = absurd (false≢true e)
-from-data f Nop e = absurd (false≢true e)
-from-data f (Multiply g) e = absurd (false≢true e)
-from-data f (Access g) e = absurd (false≢true e)
-from-data f (LiteralLoad u rt distance) e = absurd (false≢true e)
-from-data f (Branch call offset) e = absurd (false≢true e)
-from-data f (RegisterBranch call rm) e = absurd (false≢true e)
-from-data f Head e = absurd (false≢true e)
-from-data f (Literal low) e = absurd (false≢true e)
+  -- where the other answer is ruled out, the word is a data word
+  pub from-data : (f : DataFields → A) (o : A) (P : A → Type 0) → (P o → ⊥) → (k : Kind) → P (ofData f o k) → (g : DataFields) × (k ≡ Data g) × P (f g)
+  from-data f o P no′ (Data g) p = (g, refl, p)
+  from-data f o P no′ Unlisted p = absurd (no′ p)
+  from-data f o P no′ (HalfMove top rd number) p = absurd (no′ p)
+  from-data f o P no′ Nop p = absurd (no′ p)
+  from-data f o P no′ (Multiply g) p = absurd (no′ p)
+  from-data f o P no′ (Access g) p = absurd (no′ p)
+  from-data f o P no′ (LiteralLoad u rt distance) p = absurd (no′ p)
+  from-data f o P no′ (Branch call offset) p = absurd (no′ p)
+  from-data f o P no′ (RegisterBranch call rm) p = absurd (no′ p)
+  from-data f o P no′ Head p = absurd (no′ p)
+  from-data f o P no′ (Literal low) p = absurd (no′ p)

@@ -1,57 +1,58 @@
--- No word is in two pairs: the second word of a pair is no first word of another.
+-- No word is in two pairs: the second word of a pair is no first word of another, but for a closing mask of r13 that clears bits 3 to 0
+-- too, before a register branch on r13.
 use Prim.Native.Nat.{ℕ}
 use native.Mathlib.Omega.{arith}
-use mathlib.Core.Path.{_≡_, _∙_, sym, ap, subst}
+use mathlib.Core.Path.{_≡_, _∙_, refl, sym, ap}
 use mathlib.Core.Logic.{⊎-elim}
-use mathlib.Core.Bool.{true, not, _&&_, _||_, true≢false, false≢true}
+use mathlib.Core.Bool.{Bool, true, false, not, cond, _&&_, _||_, true≢false, false≢true}
+use mathlib.Core.List.{[], _∷_}
 use lib.Dec.{eqb, ltb}
-use borrow.Author.Tests.{eqb-true}
-use Rattle.decoder.specs.Immediate.{valueOf}
-use Rattle.pairs.specs.Mask.{dataMaskValue, branchMaskValue, immediateIs, masks, maskFields, isMask, isDataMask, isBranchMask, tests, testFields, isTest}
-use Rattle.decoder.specs.Question.{baseOf, branchRegister, writesSp, spWritten, keepsFlags}
+use borrow.Author.Tests.{eqb-true, eq-eqb}
+use Rattle.pairs.specs.Mask.{hasTop, hasPlace, masks, maskBits, clearedBits, isDataMask, isBranchMask, tests, testBits, testedBits, isTest}
+use Rattle.decoder.specs.Question.{baseOf, branchRegister, writesSp, spWritten, keepsFlags, takesSp}
 use Rattle.pairs.specs.Pair.{canBeGuarded, maskGuards, testGuards, branchGuards, closes, isPair}
-use Rattle.decoder.specs.declared.reading.Operand.{Operand}
-use Rattle.decoder.specs.declared.reading.Operand.the-variants.{Immediate, Shifted, ShiftedByRs}
 use Rattle.decoder.specs.declared.reading.DataFields.{DataFields}
 use Rattle.decoder.specs.declared.reading.Kind.{Kind}
-use Rattle.decoder.specs.declared.reading.Kind.the-variants.{Data}
+use Rattle.decoder.specs.declared.reading.Kind.the-variants.{Unlisted, Data, HalfMove, Nop, Multiply, Access, LiteralLoad, Branch, RegisterBranch, Head, Literal}
 use Rattle.decoder.specs.declared.reading.Reading.{Reading}
-use Rattle.decoder.proofs.Bools.{both, either}
+use Rattle.decoder.proofs.Bools.{both, each, either}
 use Rattle.decoder.proofs.Others.{from-data}
 
 -- ---- what a mask, and a test, say of the word
 
-pub record Masks (value r : ℕ) (k : Kind) : Type 0 where
+-- bits are asked only of a word whose other fields are right
+right : (b : Bool) (value : ℕ) → hasTop (cond b value 0) ≡ true → b ≡ true
+right true value e = refl
+right false value e = absurd (false≢true e)
+
+pub record Masks (r : ℕ) (k : Kind) : Type 0 where
   pub fields : DataFields
   pub data′ : k ≡ Data fields
   pub operation : fields .operation ≡ 14
   pub rd : fields .rd ≡ r
-  pub immediate : immediateIs value (fields .operand) ≡ true
 
-pub mask-says : (value r : ℕ) (k : Kind) → isMask value r k ≡ true → Masks value r k
-unfolding isMask
-mask-says value r k e =
-    let d = from-data (maskFields value r) k e in
+mask-says : (r : ℕ) (k : Kind) → hasTop (clearedBits r k) ≡ true → Masks r k
+unfolding clearedBits
+mask-says r k e =
+    let d = from-data (maskBits r) 0 (λ v. hasTop v ≡ true) false≢true k e in
     let f = d .0 in
-    let a = eqb (f .operation) 14 in
-    let b = eqb (f .s) 0 in
-    let c = eqb (f .rd) r in
-    let e1 = both (masks r f) (immediateIs value (f .operand)) (d .2) in
-    let e2 = both (a && b && c) (eqb (f .rn) r) (e1 .0) in
-    let e3 = both (a && b) c (e2 .0) in
-    record { fields = f; data′ = d .1; operation = eqb-true _ _ (both a b (e3 .0) .0); rd = eqb-true _ _ (e3 .1); immediate = e1 .1 }
+    let tests′ = each (eqb (f .operation) 14) (eqb (f .s) 0 ∷ eqb (f .rd) r ∷ not (eqb (f .rn) 9) ∷ not (eqb (f .rn) 15) ∷ []) (right (masks r f) _ (d .2)) in
+    record { fields = f; data′ = d .1; operation = eqb-true _ _ (tests′ 0); rd = eqb-true _ _ (tests′ 2) }
 
-test-operation : (r : ℕ) (f : DataFields) → isTest r (Data f) ≡ true → f .operation ≡ 8
-unfolding isTest
-test-operation r f e =
-    eqb-true _ _ (both (eqb (f .operation) 8) (eqb (f .rn) r) (both (tests r f) (immediateIs dataMaskValue (f .operand)) e .0) .0)
+pub data-mask-says : (r : ℕ) (k : Kind) → isDataMask r k ≡ true → Masks r k
+unfolding isDataMask
+data-mask-says r k e = mask-says r k e
 
--- an immediate has one value
-one-value : (o : Operand) (v u : ℕ) → immediateIs v o ≡ true → immediateIs u o ≡ true → v ≡ u
-unfolding immediateIs
-one-value (Immediate rotation byte) v u e g = sym (eqb-true (valueOf rotation byte) v e) ∙ eqb-true (valueOf rotation byte) u g
-one-value (Shifted shift amount rm) v u e g = absurd (false≢true e)
-one-value (ShiftedByRs shift rs rm) v u e g = absurd (false≢true e)
+pub branch-mask-says : (r : ℕ) (k : Kind) → isBranchMask r k ≡ true → Masks r k
+unfolding isBranchMask
+branch-mask-says r k e = mask-says r k (both _ (hasPlace (clearedBits r k)) e .0)
+
+test-says : (r : ℕ) (k : Kind) → isTest r k ≡ true → (f : DataFields) × (k ≡ Data f) × (f .operation ≡ 8)
+unfolding isTest testedBits
+test-says r k e =
+    let d = from-data (testBits r) 0 (λ v. hasTop v ≡ true) false≢true k e in
+    let f = d .0 in
+    (f, d .1, eqb-true _ _ (both (eqb (f .operation) 8) (eqb (f .rn) r) (right (tests r f) _ (d .2)) .0))
 
 -- ---- the four pairs' tests, one by one
 
@@ -113,36 +114,43 @@ second-data a b f k e =
 
 -- a first word is a data word
 first-data : (b c : Reading) → isPair b c ≡ true → (f : DataFields) × (b .kind ≡ Data f)
-unfolding isDataMask isBranchMask isTest writesSp
+unfolding writesSp
 first-data b c e =
     pair-cases b c e
-    (λ m. let s = mask-says _ _ _ (mask-guard b c m .1) in (s .fields, s .data′))
-    (λ t. let s = from-data (testFields (baseOf (c .kind))) (b .kind) (test-guard b c t .1) in (s .0, s .1))
-    (λ g. let s = mask-says _ _ _ (branch-guard b c g .1) in (s .fields, s .data′))
-    (λ d. let s = from-data spWritten (b .kind) (close-says b c d .0) in (s .0, s .1))
+    (λ m. let s = data-mask-says _ _ (mask-guard b c m .1) in (s .fields, s .data′))
+    (λ t. let s = test-says _ _ (test-guard b c t .1) in (s .0, s .1))
+    (λ g. let s = branch-mask-says _ _ (branch-guard b c g .1) in (s .fields, s .data′))
+    (λ d. let s = from-data spWritten false (λ y. y ≡ true) false≢true (b .kind) (close-says b c d .0) in (s .0, s .1))
 
--- a data mask of r13 is no first word
-closing-not-first : (b c : Reading) → isDataMask 13 (b .kind) ≡ true → isPair b c ≡ true → ⊥
-unfolding isDataMask isBranchMask canBeGuarded dataMaskValue branchMaskValue
-closing-not-first b c m e =
-    let s = mask-says _ _ _ m in
-    pair-cases b c e
+no-register : _≡_ {A = ℕ} 16 13 → ⊥
+no-register e = omega arith
+
+on-sp : (k : Kind) → branchRegister k ≡ 13 → takesSp k ≡ true
+unfolding branchRegister takesSp
+on-sp (RegisterBranch call rm) e = eq-eqb rm 13 e
+on-sp Unlisted e = absurd (no-register e)
+on-sp (Data f) e = absurd (no-register e)
+on-sp (HalfMove top rd number) e = absurd (no-register e)
+on-sp Nop e = absurd (no-register e)
+on-sp (Multiply f) e = absurd (no-register e)
+on-sp (Access f) e = absurd (no-register e)
+on-sp (LiteralLoad u rt distance) e = absurd (no-register e)
+on-sp (Branch call offset) e = absurd (no-register e)
+on-sp Head e = absurd (no-register e)
+on-sp (Literal low) e = absurd (no-register e)
+
+-- a data mask of r13 is first only before a register branch on r13, as a branch mask of it
+closing-first : (b c : Reading) → isDataMask 13 (b .kind) ≡ true → isPair b c ≡ true → takesSp (c .kind) ≡ true
+unfolding canBeGuarded
+closing-first b c m e =
+    let s = data-mask-says _ _ m in
+    pair-cases b c e (λ g. let h = mask-guard b c g in absurd (true≢false (sym (h .0) ∙ ap canBeGuarded (same-register s (data-mask-says _ _ (h .1))))))
     (λ g.
-    let h = mask-guard b c g in
-    let t = mask-says _ _ _ (h .1) in
-    let same : s .fields ≡ t .fields = data-same _ _ (sym (s .data′) ∙ t .data′) in
-    let r : baseOf (c .kind) ≡ 13 = sym (t .rd) ∙ sym (ap (λ (f : DataFields). f .rd) same) ∙ s .rd in
-    true≢false (sym (h .0) ∙ ap canBeGuarded r))
-    (λ g.
-    let o : s .fields .operation ≡ 8 = test-operation _ _ (subst (λ (k : Kind). isTest (baseOf (c .kind)) k ≡ true) (s .data′) (test-guard b c g .1)) in
-    let o′ = s .operation in
-    eight o o′)
-    (λ g.
-    let t = mask-says _ _ _ (branch-guard b c g .1) in
-    let same : s .fields ≡ t .fields = data-same _ _ (sym (s .data′) ∙ t .data′) in
-    let v : 0xC000_0000 ≡ 0xC000_000F = one-value (s .fields .operand) _ _ (s .immediate) (subst (λ (f : DataFields). immediateIs 0xC000_000F (f .operand) ≡ true) (sym same) (t .immediate)) in
-    omega arith)
-    (λ g. true≢false (sym (close-says b c g .1) ∙ ap not m))
+    let t = test-says _ _ (test-guard b c g .1) in
+    let o : s .fields .operation ≡ 8 = ap (λ (f : DataFields). f .operation) (data-same _ _ (sym (s .data′) ∙ t .1)) ∙ t .2 in
+    absurd (eight o (s .operation)))
+    (λ g. on-sp (c .kind) (same-register s (branch-mask-says _ _ (branch-guard b c g .1))))
+    (λ g. absurd (true≢false (sym (close-says b c g .1) ∙ ap not m)))
   where
     eight : {x : ℕ} → x ≡ 8 → x ≡ 14 → ⊥
     eight p q = omega arith
@@ -150,5 +158,12 @@ closing-not-first b c m e =
     data-same : (f g : DataFields) → Data f ≡ Data g → f ≡ g
     data-same f g p = cc
 
-pub no-two-pairs : (a b c : Reading) → isPair a b ≡ true → isPair b c ≡ true → ⊥
-no-two-pairs a b c e g = let d = first-data b c g in closing-not-first b c (second-data a b (d .0) (d .1) e) g
+    -- a word masks one register
+    same-register : {k : Kind} {r t : ℕ} → Masks r k → Masks t k → t ≡ r
+    same-register x y = sym (y .rd) ∙ sym (ap (λ (f : DataFields). f .rd) (data-same _ _ (sym (x .data′) ∙ y .data′))) ∙ x .rd
+
+-- unless the third word is one that rule 6 refuses
+pub no-two-pairs : (a b c : Reading) → takesSp (c .kind) ≡ false → isPair a b ≡ true → isPair b c ≡ true → ⊥
+no-two-pairs a b c n e g =
+    let d = first-data b c g in
+    true≢false (sym (closing-first b c (second-data a b (d .0) (d .1) e) g) ∙ n)

@@ -1,4 +1,4 @@
--- The word before an inner word is plain.
+-- The word before an inner word is plain, unless rule 6 refuses the inner word by itself.
 use Prim.Native.Nat.{ℕ, zero, suc, _<_}
 use native.Mathlib.Nat.{not-suc-le-zero, le-of-suc-le-suc}
 use native.Mathlib.Omega.{arith}
@@ -10,7 +10,8 @@ use lib.ListN.{getD}
 use borrow.Author.Tests.{eqb-true}
 use Rattle.decoder.specs.Word.{conditionOf, isData, isHalfMove, isNop, isMultiply, isLiteralLoad, isAccess, isBranch, isRegisterBranch, kindOf, readingOf}
 use Rattle.pairs.specs.Pair.{isPair}
-use Rattle.decoder.specs.Bundle.{headWord, readingsOf}
+use Rattle.decoder.specs.Question.{takesSp}
+use Rattle.decoder.specs.Bundle.{headWord, readingsOf, blank}
 use Rattle.pairs.specs.Role.{plain, inner, data′, head, roleAlone, roleAfter, rolesOf}
 use Rattle.decoder.specs.declared.reading.Kind.{Kind}
 use Rattle.decoder.specs.declared.reading.Reading.{Reading}
@@ -42,6 +43,11 @@ plain-or-inner : (first : Reading) (w : ℕ) → (isPair first (readingOf w) ≡
 unfolding roleAfter
 plain-or-inner first w d = by-test (isPair first (readingOf w)) (λ p. absurd (d p)) (λ p. simp p (plain-alone w))
 
+-- an inner word that rule 6 does not refuse by itself follows a plain one
+abbrev pub Follows : List Reading → ℕ → Type 0
+Follows rs slot =
+    takesSp (getD rs (suc slot) blank .kind) ≡ false → getD (rolesOf rs) (suc slot) 0 ≡ inner → getD (rolesOf rs) slot 0 ≡ plain
+
 module _ (w0 w1 w2 w3 : ℕ) where
   abbrev pub ws : List ℕ
   ws = w0 ∷ w1 ∷ w2 ∷ w3 ∷ []
@@ -61,18 +67,18 @@ module _ (w0 w1 w2 w3 : ℕ) where
   unfolding readingsOf
   without-head e = simp e
 
-  plain-before : (slot : ℕ) → slot < 3 → eqb w0 headWord ≡ false → getD (rolesOf (readingsOf ws)) (suc slot) 0 ≡ inner → getD (rolesOf (readingsOf ws)) slot 0 ≡ plain
+  plain-before : (slot : ℕ) → slot < 3 → eqb w0 headWord ≡ false → Follows (readingsOf ws) slot
   unfolding rolesOf
-  plain-before slot h e k = subst (λ (rs : List Reading). getD (rolesOf rs) slot 0 ≡ plain) (sym (without-head e)) (go slot h (subst (λ (rs : List Reading). getD (rolesOf rs) (suc slot) 0 ≡ inner) (without-head e) k))
+  plain-before slot h e = subst (λ (rs : List Reading). Follows rs slot) (sym (without-head e)) (go slot h)
     where
       rs : List Reading
       rs = readingOf w0 ∷ readingOf w1 ∷ readingOf w2 ∷ readingOf w3 ∷ []
 
-      go : (slot : ℕ) → slot < 3 → getD (rolesOf rs) (suc slot) 0 ≡ inner → getD (rolesOf rs) slot 0 ≡ plain
-      go zero h k = plain-alone w0
-      go (suc zero) h k = plain-or-inner (readingOf w0) w1 (λ p. no-two-pairs (readingOf w0) (readingOf w1) (readingOf w2) p (inner-exactly rs 1 (omega arith) .0 k))
-      go (suc (suc zero)) h k = plain-or-inner (readingOf w1) w2 (λ p. no-two-pairs (readingOf w1) (readingOf w2) (readingOf w3) p (inner-exactly rs 2 (omega arith) .0 k))
-      go (suc (suc (suc n))) h k = absurd (not-suc-le-zero (le-of-suc-le-suc (le-of-suc-le-suc (le-of-suc-le-suc h))))
+      go : (slot : ℕ) → slot < 3 → Follows rs slot
+      go zero h n k = plain-alone w0
+      go (suc zero) h n k = plain-or-inner (readingOf w0) w1 (λ p. no-two-pairs (readingOf w0) (readingOf w1) (readingOf w2) n p (inner-exactly rs 1 (omega arith) .0 k))
+      go (suc (suc zero)) h n k = plain-or-inner (readingOf w1) w2 (λ p. no-two-pairs (readingOf w1) (readingOf w2) (readingOf w3) n p (inner-exactly rs 2 (omega arith) .0 k))
+      go (suc (suc (suc m))) h n k = absurd (not-suc-le-zero (le-of-suc-le-suc (le-of-suc-le-suc (le-of-suc-le-suc h))))
 
-  pub plain-before-inner : (slot : ℕ) → slot < 3 → getD (rolesOf (readingsOf ws)) (suc slot) 0 ≡ inner → getD (rolesOf (readingsOf ws)) slot 0 ≡ plain
-  plain-before-inner slot h k = by-test (eqb w0 headWord) (λ e. absurd (with-head e (suc slot) k)) (λ e. plain-before slot h e k)
+  pub plain-before-inner : (slot : ℕ) → slot < 3 → Follows (readingsOf ws) slot
+  plain-before-inner slot h n k = by-test (eqb w0 headWord) (λ e. absurd (with-head e (suc slot) k)) (λ e. plain-before slot h e n k)

@@ -9,7 +9,7 @@ use mathlib.Core.Bool.{Bool, true, false, cond}
 use mathlib.Core.List.{List, [], _∷_}
 use lib.ListN.{getD}
 use lib.Dec.{eqb, ltb, lit<}
-use Rattle.pairs.specs.Mask.{isMask, isDataMask, isBranchMask, isTest}
+use Rattle.pairs.specs.Mask.{clearedBits, isDataMask, isBranchMask, testedBits, isTest}
 use Rattle.decoder.specs.Question.{baseOf, branchRegister, writesSp}
 use Rattle.pairs.specs.Pair.{canBeGuarded, maskGuards, testGuards, branchGuards, closes, isPair}
 use Rattle.decoder.specs.Bundle.{headWord, headReading, literalReading, readingsOf, blank}
@@ -57,7 +57,7 @@ head-makes-data a b c = refl
 
 -- what stands for a neighbour outside the bundle is in no pair
 blank-before : (r : Reading) → isPair blank r ≡ false
-unfolding isPair maskGuards testGuards branchGuards closes isDataMask isBranchMask isTest isMask writesSp
+unfolding isPair maskGuards testGuards branchGuards closes isDataMask isBranchMask isTest clearedBits testedBits writesSp
 blank-before r =
     by-test (canBeGuarded (baseOf (r .kind))) (λ g. by-test branches (λ b. simp (g, b)) (λ b. simp (g, b))) (λ g. by-test branches (λ b. simp (g, b)) (λ b. simp (g, b)))
   where

@@ -3,63 +3,90 @@ use decoder::immediate::value;
 use decoder::reading::Kind;
 use decoder::reading::Operand;
 ghost use mathlib.Core.Path.{_≡_};
-ghost use Rattle.pairs.specs.Mask.{immediateIs, isMask, isDataMask, isBranchMask, isTest};
-
-// The bits above the sandbox.
-const DATA_MASK: u32 = 0xC000_0000;
-// Those, and the place within a bundle.
-const BRANCH_MASK: u32 = 0xC000_000F;
+ghost use mathlib.Core.Bool.{cond};
+ghost use Rattle.pairs.specs.Mask.{hasTop, hasPlace, immediateOf, clearedBits, isDataMask, isBranchMask, testedBits, isTest};
 
 const TST: u32 = 8;
 
 const BIC: u32 = 14;
+// No mask is from this register, nor from pc.
+const THREAD: u32 = 9;
 
-fn immediate_is(wanted: u32, operand: Operand) -> bool
-    ensures { λ r. ⌜ r ≡ immediateIs wanted operand ⌝ }
+const PC: u32 = 15;
+
+// Bits 31 and 30, those above the sandbox, are set.
+fn has_top(value: u32) -> bool
+    ensures { λ b. ⌜ b ≡ hasTop value ⌝ }
 {
-    let Operand::Immediate { rotation, byte } = operand else {
-        return false;
-    };
-    value(rotation, byte) == wanted
+    value / 0x4000_0000 % 4 == 3
 }
 
-fn is_mask(wanted: u32, r: u32, kind: Kind) -> bool
-    ensures { λ b. ⌜ b ≡ isMask wanted r kind ⌝ }
+// Bits 3 to 0, the place within a bundle, are set.
+fn has_place(value: u32) -> bool
+    ensures { λ b. ⌜ b ≡ hasPlace value ⌝ }
+{
+    value % 16 == 15
+}
+
+// An immediate's value where the word's other fields are right, and else no bits.
+fn immediate(right: bool, operand: Operand) -> u32
+    ensures { λ v. ⌜ v ≡ cond right (immediateOf operand) 0 ⌝ }
+{
+    if !right {
+        return 0;
+    }
+    let Operand::Immediate { rotation, byte } = operand else {
+        return 0;
+    };
+    value(rotation, byte)
+}
+
+// The bits that an immediate bic into r clears; none of another word.
+fn cleared(r: u32, kind: Kind) -> u32
+    ensures { λ v. ⌜ v ≡ clearedBits r kind ⌝ }
 {
     let Kind::Data(fields) = kind else {
-        return false;
+        return 0;
     };
+    let right = (fields.operation == BIC)
+        & (fields.s == 0)
+        & (fields.rd == r)
+        & !(fields.rn == THREAD)
+        & !(fields.rn == PC);
     let operand = fields.operand;
-    if !((fields.operation == BIC) & (fields.s == 0) & (fields.rd == r) & (fields.rn == r)) {
-        return false;
-    }
-    immediate_is(wanted, operand)
+    immediate(right, operand)
 }
 
 // The word is a data mask of r.
 pub fn is_data_mask(r: u32, kind: Kind) -> bool
     ensures { λ b. ⌜ b ≡ isDataMask r kind ⌝ }
 {
-    is_mask(DATA_MASK, r, kind)
+    has_top(cleared(r, kind))
 }
 
 // The word is a branch mask of r.
 pub fn is_branch_mask(r: u32, kind: Kind) -> bool
     ensures { λ b. ⌜ b ≡ isBranchMask r kind ⌝ }
 {
-    is_mask(BRANCH_MASK, r, kind)
+    let bits = cleared(r, kind);
+    has_top(bits) & has_place(bits)
 }
 
-// The word tests the bits of r that a data mask clears.
+// The bits that an immediate tst of r asks for; none of another word.
+fn tested(r: u32, kind: Kind) -> u32
+    ensures { λ v. ⌜ v ≡ testedBits r kind ⌝ }
+{
+    let Kind::Data(fields) = kind else {
+        return 0;
+    };
+    let right = (fields.operation == TST) & (fields.rn == r);
+    let operand = fields.operand;
+    immediate(right, operand)
+}
+
+// The word tests at least the bits of r that a data mask clears.
 pub fn is_test(r: u32, kind: Kind) -> bool
     ensures { λ b. ⌜ b ≡ isTest r kind ⌝ }
 {
-    let Kind::Data(fields) = kind else {
-        return false;
-    };
-    let operand = fields.operand;
-    if !((fields.operation == TST) & (fields.rn == r)) {
-        return false;
-    }
-    immediate_is(DATA_MASK, operand)
+    has_top(tested(r, kind))
 }

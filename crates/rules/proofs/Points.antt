@@ -9,7 +9,7 @@ use Rattle.decoder.specs.Immediate.{rotated, valueOf}
 use Rattle.decoder.specs.Place.{behind, signedStep, targetOf, literalOf}
 use Rattle.decoder.specs.Question.{operandNames, names, baseOf, branchRegister, writesSp, keepsFlags, takesSp, isCall, isUnlisted}
 use Rattle.decoder.specs.declared.place.Place.the-variants.{Below, At}
-use Rattle.pairs.specs.Mask.{dataMaskValue, branchMaskValue, immediateIs, isMask, isDataMask, isBranchMask, isTest}
+use Rattle.pairs.specs.Mask.{immediateOf, clearedBits, isDataMask, isBranchMask, testedBits, isTest}
 use Rattle.pairs.specs.Pair.{canBeGuarded, maskGuards, testGuards, branchGuards, closes}
 use Rattle.rules.specs.declared.layout.Layout.{Layout}
 use Rattle.rules.specs.declared.outcome.Reason.the-variants.{PatchShape, Disagreement, Stranded}
@@ -59,13 +59,18 @@ pub record Points : Type 0 where
   -- rule::rule6
   pub flag-setting-write : rule6 (readingOf 0xE1B0_D000) (readingOf 0xE3CD_D103) ≡ true
   pub mask-of-sp-alone : rule6 (readingOf 0x03CD_D103) (readingOf N) ≡ false
+  pub mask-of-sp-from-another : rule6 (readingOf 0xE3C0_D103) (readingOf N) ≡ false
+  pub mask-of-sp-from-r9 : rule6 (readingOf 0xE3C9_D103) (readingOf N) ≡ true
   pub closed-write : rule6 (readingOf 0xE1A0_D000) (readingOf 0xE3CD_D103) ≡ false
   -- rule::rule7
   pub test-with-the-switch-off : rule7 (at 131072 131072 false) (readingOf 0xE310_0103) (readingOf 0x0580_1000) ≡ true
   pub no-guard : rule7 paper (readingOf N) (readingOf 0xE580_1000) ≡ true
+  pub guard-clears-more : rule7 paper (readingOf 0xE3C0_013F) (readingOf 0xE580_1000) ≡ false
+  pub guard-clears-too-little : rule7 paper (readingOf 0xE3C0_0102) (readingOf 0xE580_1000) ≡ true
   -- rule::rule8
   pub branch-behind-nop : rule8 (readingOf N) (readingOf 0xE12F_FF10) ≡ true
   pub branch-behind-mask : rule8 (readingOf 0xE3C0_013F) (readingOf 0xE12F_FF10) ≡ false
+  pub branch-mask-too-little : rule8 (readingOf 0xE3C0_010F) (readingOf 0xE12F_FF10) ≡ true
   -- rule::rule9
   pub call-in-slot-2 : rule9 (kindOf 0xEBFF_FFFE) 2 ≡ true
   pub call-in-slot-3 : rule9 (kindOf 0xEBFF_FFFB) 3 ≡ false
@@ -91,5 +96,5 @@ pub record Points : Type 0 where
   pub call-9 : faultAlone 0xEBFF_FFFE 2 ≡ 9
 
 pub points : Points
-unfolding kindOf isData isCompare isMove isHalfMove isNop isMultiply isAnyAccess isLiteralLoad isAccess isBranch isRegisterBranch dataFields operandOf multiplyFields accessFields readingOf literalReading rotated valueOf behind signedStep targetOf literalOf operandNames names baseOf branchRegister writesSp keepsFlags takesSp isCall isUnlisted dataMaskValue branchMaskValue immediateIs isMask isDataMask isBranchMask isTest canBeGuarded maskGuards testGuards branchGuards closes sandboxEnd codeLimit layoutHolds lengthHolds rule4 rule5 rule6 wantsGuard rule7 rule8 rule9 literalHolds rule10 wordAtAddress landingOf inTrampolines landable rule11 rulesOf lowestFrom faultOf
+unfolding kindOf isData isCompare isMove isHalfMove isNop isMultiply isAnyAccess isLiteralLoad isAccess isBranch isRegisterBranch dataFields operandOf multiplyFields accessFields readingOf literalReading rotated valueOf behind signedStep targetOf literalOf operandNames names baseOf branchRegister writesSp keepsFlags takesSp isCall isUnlisted immediateOf clearedBits isDataMask isBranchMask testedBits isTest canBeGuarded maskGuards testGuards branchGuards closes sandboxEnd codeLimit layoutHolds lengthHolds rule4 rule5 rule6 wantsGuard rule7 rule8 rule9 literalHolds rule10 wordAtAddress landingOf inTrampolines landable rule11 rulesOf lowestFrom faultOf
 points = search

@@ -3,7 +3,7 @@
 //! `bench [file.bin ...]`
 
 use second::make::*;
-use second::regions::{address, some_condition, some_data, BENCH_LAYOUT as LAYOUT, FREE, SP};
+use second::regions::{address, some_condition, some_data, BENCH_LAYOUT as LAYOUT, FREE};
 use second::rng::Rng;
 use second::{awl, check, Outcome, CODE_LIMIT};
 use std::hint::black_box;

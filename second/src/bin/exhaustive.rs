@@ -1,11 +1,12 @@
 //! Every one of the 2^32 words, put to both programs: in slot 0 among nops; in
-//! slot 1 behind a mask that fits it; and, where its bits could name r13 as the
-//! register a data word writes, in slot 0 before a closing mask of r13.
+//! slot 1 behind a mask that fits it; where its bits could name r13 as the
+//! register a data word writes, in slot 0 before a closing mask of r13; and where
+//! they could be a mask or a test, in slot 0 before what that would guard.
 //!
 //! `exhaustive [--threads n] [--part i/n]`, parts counted from 1
 
-use second::make::{guard, mask, ALWAYS, DATA_BITS, NOP};
-use second::regions::{BENCH_LAYOUT as LAYOUT, SP};
+use second::make::*;
+use second::regions::BENCH_LAYOUT as LAYOUT;
 use second::{awl, check, Outcome};
 use std::ops::Range;
 use std::process::ExitCode;
@@ -94,6 +95,9 @@ impl Count {
         if word >> 26 & 3 == 0 && word >> 12 & 15 == SP {
             self.put([word, mask(word >> 28, SP, DATA_BITS[0]), NOP, NOP]);
         }
+        if word >> 25 & 7 == 1 {
+            guarded(word).into_iter().for_each(|second| self.put([word, second, NOP, NOP]));
+        }
     }
 
     fn put(&mut self, words: [u32; 4]) {
@@ -115,17 +119,23 @@ impl Count {
 }
 
 /// The guard of the word, unless that is refused itself and so hides the word:
-/// a mask of r9 or r15, a branch mask of r13, any with condition 15.
+/// a mask of r9 or r15, any with condition 15.
 fn fitting_mask(word: u32) -> u32 {
     let guard = guard(word);
-    let hides = match guard >> 16 & 15 {
-        9 | 15 => true,
-        SP if guard & 0xFFF != DATA_BITS[0] => true,
-        _ => guard >> 28 == 15,
-    };
+    let hides = matches!(guard >> 12 & 15, R9 | PC) || guard >> 28 == 15;
     if hides {
         mask(ALWAYS, 0, DATA_BITS[0])
     } else {
         guard
     }
+}
+
+/// What the word would guard, were it a data mask, a branch mask, a test.
+fn guarded(word: u32) -> [u32; 3] {
+    let (condition, rn, rd) = (word >> 28, word >> 16 & 15, word >> 12 & 15);
+    [
+        access(condition, P | U, rd, 1, 0),
+        register_branch(condition, false, rd),
+        access(EQUAL, P | U, rn, 1, 0),
+    ]
 }

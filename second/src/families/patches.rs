@@ -1,17 +1,19 @@
 //! The families of patches: honest sequences, and calls with damaged parts.
 
+use super::pairs::{two_masks, two_pairs};
 use super::{odd_bundle, places::damage, web, Family};
-use crate::make::{branch, bytes, words, ALWAYS, HEAD, NOP};
+use crate::make::{branch, bytes, padded, words, ALWAYS, HEAD, NOP};
 use crate::regions::{self, address, edit, part, region};
 use crate::rng::Rng;
 use crate::{check, patch, Layout, Outcome, CODE_LIMIT};
 use std::ops::Range;
 
-pub(super) const ALL: [Family<Vec<Call>>; 4] = [
+pub(super) const ALL: [Family<Vec<Call>>; 5] = [
     Family { name: "sequences", share: 5, make: sequence },
     Family { name: "damaged", share: 3, make: |rng| vec![damaged(rng)] },
     Family { name: "odd", share: 1, make: |rng| vec![odd(rng)] },
     Family { name: "counts", share: 1, make: |rng| vec![counts(rng)] },
+    Family { name: "outdated", share: 2, make: |rng| vec![outdated(rng)] },
 ];
 
 /// Everything a patch call is handed.
@@ -207,4 +209,17 @@ fn counts(rng: &mut Rng) -> Call {
     };
     let (old, new) = (visitors(), visitors());
     Call::new(layout, &ledger, first, &old, &new)
+}
+
+/// Old words whose roles request 3 changed, with the roles of today or one that
+/// differs.
+fn outdated(rng: &mut Rng) -> Call {
+    let layout = regions::layout(rng, 16);
+    let make = rng.pick(&[two_masks, two_pairs]);
+    let old = padded(&make(rng));
+    let mut ledger: Vec<u32> = regions::roles(&old).into_iter().map(|role| role as u32).collect();
+    if rng.once_in(2) {
+        ledger[1 + rng.below(2)] ^= 1;
+    }
+    Call::new(layout, &ledger, 0, &old, &odd_bundle(rng))
 }

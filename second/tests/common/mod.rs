@@ -1,8 +1,9 @@
 //! What the tests share: regions as words, answers as the paper writes them.
 #![allow(dead_code)] // each test file uses its part
 
-use second::make::{bytes, padded};
-use second::{check, Layout, Outcome};
+use second::families::Case;
+use second::make::{bytes, padded, words};
+use second::{check, regions, Layout, Outcome};
 
 pub use second::regions::BENCH_LAYOUT as LAYOUT;
 
@@ -34,10 +35,22 @@ pub fn answer_to_bytes(layout: &Layout, code: &[u8]) -> Result<Vec<u32>, Outcome
     }
 }
 
+/// The answer to a case with another word in one place.
+pub fn mended(case: &Case, place: usize, word: u32) -> Outcome {
+    let mut code = words(&case.code);
+    code[place] = word;
+    answer(&case.layout, &code).map_or_else(|refusal| refusal, |_| Outcome::Accepted)
+}
+
 pub fn accepts(words: &[u32], ledger: &[u32]) {
     assert_eq!(answer(&LAYOUT, words), Ok(ledger.to_vec()), "{words:08X?}");
 }
 
 pub fn refuses(words: &[u32], number: u32, address: u32) {
     assert_eq!(answer(&LAYOUT, words), Err(refused_at(number, address)), "{words:08X?}");
+}
+
+/// The roles of the words, as the ledger has them, whatever rule they break.
+pub fn roles(words: &[u32]) -> Vec<u32> {
+    regions::roles(&padded(words)).into_iter().map(|role| role as u32).collect()
 }
