@@ -1,5 +1,5 @@
--- The masks of document 01: the value exactly, and the same register on both sides. Request 3 takes more; these keep their name for what
--- may be taken away again.
+-- The masks of document 01: the value exactly, and the same register on both sides. Request 3 takes these and more; they keep their name,
+-- as they do nothing but guard.
 use Prim.Native.Nat.{ℕ}
 use mathlib.Core.Bool.{Bool, false, _&&_}
 use lib.Dec.{eqb}
