@@ -19,17 +19,14 @@ use Rattle.pairs.proofs.Plain.{plain-before-inner}
 use Rattle.pairs.proofs.Apart.{no-two-pairs}
 use Rattle.rules.specs.declared.layout.Layout.{Layout}
 use Rattle.rules.specs.Layout.{layoutHolds, lengthHolds}
-use Rattle.rules.specs.Outcome.{accepted, refused}
+use Rattle.rules.specs.Outcome.{accepted}
 use Rattle.rules.specs.Rule.{rule6, rulesOf, breaks}
 use Rattle.rules.proofs.Says.{length-says}
 use Rattle.checker.specs.Region.{bundleWords, bundleAt, readingAt, beforeAt, nextAt, roleAt}
 use Rattle.checker.specs.Standing.{breaksAt}
 use Rattle.checker.specs.Check.{wordsOf, wordBreaks, checkVerdict}
 use Rattle.checker.proofs.Words.{next-at, past-slot-3}
-use Rattle.checker.proofs.Demands.{AllMeet, accepted-exactly, order-1, order-2, order-3}
-
-pub refused-not : (a : ℕ) → refused a ≡ accepted → ⊥
-refused-not a e = let z : _≡_ {A = ℕ} 1 0 = cc in omega arith
+use Rattle.checker.proofs.Demands.{refused-not, AllMeet, accepted-exactly, order-1, order-2, order-3}
 
 module _ (l : Layout) (code : List ℕ) (entries : ℕ) (is-accepted : checkVerdict l code entries ≡ accepted) where
   pub layout-held : layoutHolds l (length code) ≡ true

@@ -26,6 +26,13 @@ use Rattle.checker.specs.Patch.{movedLedger, patchVerdict, Patched}
 use Rattle.checker.proofs.First.{first-to, first-hit, first-miss, first-none, found-at}
 use Rattle.checker.proofs.Lists.{list-length, list-at}
 
+-- a refusal is no acceptance
+pub refused-not : (a : ℕ) → refused a ≡ accepted → ⊥
+refused-not a e = let z : _≡_ {A = ℕ} 1 0 = cc in omega arith
+
+pub refused-at-not : (a b : ℕ) → refusedAt a b ≡ accepted → ⊥
+refused-at-not a b e = let z : _≡_ {A = ℕ} 1 0 = cc in omega arith
+
 module _ (l : Layout) (code : List ℕ) where
   -- word k meets every rule
   abbrev pub Meets : ℕ → Type 0
@@ -107,13 +114,10 @@ module _ (l : Layout) (code : List ℕ) where
       let found = found-at (codeFault l code) 0 (wordsOf code) k number (b .inside) (λ j h. ap (codeFault l code) (zero-add j) ∙ meets-fault j (b .below j h)) (sym e ∙ ap (codeFault l code) (sym (zero-add k))) (λ z. breaks-not-zero k number (b .breaks′) (e ∙ z)) in
       (sym (found .place) ∙ zero-add k, e)
 
-  not-both : {v : Verdict} {number at : ℕ} → v ≡ accepted → v ≡ refusedAt number at → ⊥
-  not-both p q = let z : _≡_ {A = ℕ} 0 1 = cc in omega arith
-
   words-accepted : (wordsVerdict l code ≡ accepted) ↔ AllMeet
   words-accepted = (
     (λ e.
-        by-test (ltb first (wordsOf code)) (λ t. absurd (not-both e (words-refuse (ltb-true _ _ t))))
+        by-test (ltb first (wordsOf code)) (λ t. absurd (refused-at-not _ _ (sym (words-refuse (ltb-true _ _ t)) ∙ e)))
         (λ t. let a = ltb-false first (wordsOf code) t in let b = first-most in to-end (omega arith))),
     λ h. words-accept (let e = all-to-end h in omega arith),
   )
@@ -148,7 +152,7 @@ module _ (l : Layout) (code : List ℕ) where
           subst (LowestBroken first) (sym (number-of _ _ _ _ same)) (first-broken h),
           address-of _ _ _ _ same,
         ))
-        (λ t. absurd (not-both (words-accept (ltb-false _ _ t)) (sym by-words ∙ e)))
+        (λ t. absurd (refused-at-not _ _ (sym e ∙ by-words ∙ words-accept (ltb-false _ _ t))))
       where
         number-of : (a b c d : ℕ) → refusedAt a b ≡ refusedAt c d → a ≡ c
         number-of a b c d p = cc

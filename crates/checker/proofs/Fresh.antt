@@ -23,15 +23,12 @@ use Rattle.checker.specs.Edit.{Fits}
 use Rattle.checker.proofs.First.{first-miss, first-none}
 use Rattle.checker.proofs.Lists.{split, all-yes, list-is, list-length, list-at}
 use Rattle.checker.proofs.Checks.{landings-most}
-use Rattle.checker.proofs.Demands.{accepted-exactly, fault-meets, meets-fault, ledger-entries}
-use Rattle.checker.proofs.Accepted.{refused-not, layout-held, length-held, all-meet}
+use Rattle.checker.proofs.Demands.{refused-not, refused-at-not, accepted-exactly, fault-meets, meets-fault, ledger-entries}
+use Rattle.checker.proofs.Accepted.{layout-held, length-held, all-meet}
 use Rattle.checker.proofs.Placed.{Placed, Parts, parts}
 use Rattle.checker.proofs.Edited.{role-same, edited-length}
 use Rattle.checker.proofs.Recount.{old-length, word-old, counted-before, counted-after, below-outside, above-outside}
 use Rattle.checker.proofs.Refresh.{words-after, count-is, role-is, less-is, roles-are, inside-fault, outside-meets, none-stranded}
-
-pub refused-at-not : (a b : ℕ) → refusedAt a b ≡ accepted → ⊥
-refused-at-not a b e = let z : _≡_ {A = ℕ} 1 0 = cc in omega arith
 
 -- a verdict that goes by the first place where f is not zero
 module _ (f : ℕ → ℕ) (m : ℕ) (no : ℕ → Verdict) (go : Verdict) where

@@ -11,8 +11,8 @@ use Rattle.checker.specs.Check.{wordsOf, checkVerdict, ledgerOf, ledgerA
 use Rattle.checker.specs.Edit.{piece, edited, Edit, Fits, AllFit, standing, answer, codeThen, ledgerThen, whole-edit, AsFresh, AllAsFresh}
 use Rattle.checker.proofs.Lists.{split, list-length, list-at}
 use Rattle.checker.proofs.Edited.{edited-length, edited-in, edited-below, edited-above}
-use Rattle.checker.proofs.Accepted.{refused-not}
-use Rattle.checker.proofs.Fresh.{refused-at-not, exactly-fresh, fresh-ledger, never-13}
+use Rattle.checker.proofs.Demands.{refused-not, refused-at-not}
+use Rattle.checker.proofs.Fresh.{exactly-fresh, fresh-ledger, never-13}
 
 -- an answer is acceptance or it is not
 decide : {P : Type 0} (v : Verdict) → (v ≡ accepted → P) → ((v ≡ accepted → ⊥) → P) → P

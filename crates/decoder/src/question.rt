@@ -12,7 +12,12 @@ ghost use Rattle.decoder.specs.Question.{operandNames, multiplyNames, mo
 // Stands for no register.
 pub const NO_REGISTER: u32 = 16;
 
+// The registers that the rules speak of.
+pub const THREAD: u32 = 9;
+
 pub const SP: u32 = 13;
+
+pub const PC: u32 = 15;
 
 fn operand_names(r: u32, operand: Operand) -> bool
     ensures { λ b. ⌜ b ≡ operandNames r operand ⌝ }

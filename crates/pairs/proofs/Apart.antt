@@ -25,7 +25,7 @@ right : (b : Bool) (value : ℕ) → hasTop (cond b value 0) ≡ true → b ≡ 
 right true value e = refl
 right false value e = absurd (false≢true e)
 
-pub record Masks (r : ℕ) (k : Kind) : Type 0 where
+record Masks (r : ℕ) (k : Kind) : Type 0 where
   pub fields : DataFields
   pub data′ : k ≡ Data fields
   pub operation : fields .operation ≡ 14
@@ -39,11 +39,11 @@ mask-says r k e =
     let tests′ = each (eqb (f .operation) 14) (eqb (f .s) 0 ∷ eqb (f .rd) r ∷ not (eqb (f .rn) 9) ∷ not (eqb (f .rn) 15) ∷ []) (right (masks r f) _ (d .2)) in
     record { fields = f; data′ = d .1; operation = eqb-true _ _ (tests′ 0); rd = eqb-true _ _ (tests′ 2) }
 
-pub data-mask-says : (r : ℕ) (k : Kind) → isDataMask r k ≡ true → Masks r k
+data-mask-says : (r : ℕ) (k : Kind) → isDataMask r k ≡ true → Masks r k
 unfolding isDataMask
 data-mask-says r k e = mask-says r k e
 
-pub branch-mask-says : (r : ℕ) (k : Kind) → isBranchMask r k ≡ true → Masks r k
+branch-mask-says : (r : ℕ) (k : Kind) → isBranchMask r k ≡ true → Masks r k
 unfolding isBranchMask
 branch-mask-says r k e = mask-says r k (both _ (hasPlace (clearedBits r k)) e .0)
 

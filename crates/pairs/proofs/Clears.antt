@@ -12,7 +12,7 @@ use Rattle.pairs.specs.Mask.{hasTop, hasPlace}
 abbrev pub cleared : ℕ → ℕ → ℕ
 cleared x value = bitAnd x (4294967295 - value)
 
-module _ (x value : ℕ) (small : value < 4294967296) where
+module _ (x value : ℕ) where
   pub cleared-inside : hasTop value ≡ true → cleared x value < 1073741824
   cleared-inside e =
       let top = eqb-true (value / 2 ^ 30 % 4) 3 e in
@@ -27,7 +27,10 @@ module _ (x value : ℕ) (small : value < 4294967296) where
 
   pub tested-inside : x < 4294967296 → hasTop value ≡ true → bitAnd x value ≡ 0 → x < 1073741824
   tested-inside h e t =
-      let top = eqb-true (value / 2 ^ 30 % 4) 3 e in
-      let three : value / 2 ^ 30 ≡ 3 = omega arith in
-      let shifted : x / 2 ^ 30 % 4 ≡ 0 = sym (and-mask (x / 2 ^ 30) 2) ∙ sym (ap (bitAnd (x / 2 ^ 30)) three) ∙ sym (and-shr x value 30) ∙ ap (λ (n : ℕ). n / 2 ^ 30) t in
+      let shifted : bitAnd (x / 2 ^ 30) (value / 2 ^ 30) ≡ 0 = sym (and-shr x value 30) ∙ ap (λ (n : ℕ). n / 2 ^ 30) t in
+      let top : x / 2 ^ 30 % 4 % 4 ≡ 0 =
+      sym (and-mask (x / 2 ^ 30 % 4) 2)
+      ∙ ap (bitAnd (x / 2 ^ 30 % 4)) (sym (eqb-true (value / 2 ^ 30 % 4) 3 e))
+      ∙ sym (and-mod (x / 2 ^ 30) (value / 2 ^ 30) 2)
+      ∙ ap (λ (n : ℕ). n % 4) shifted in
       omega arith

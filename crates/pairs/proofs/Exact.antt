@@ -1,4 +1,4 @@
--- The masks of document 01 are masks still, but of r9 and pc.
+-- The masks of document 01 are masks still, but of r9 and pc; and its tests are tests.
 use Prim.Native.Nat.{ℕ}
 use mathlib.Core.Path.{_≡_, _∙_, sym, ap}
 use mathlib.Core.Bool.{true, _&&_, false≢true}
@@ -8,7 +8,7 @@ use borrow.Author.Tests.{eqb-true, ne-eqb}
 use Rattle.decoder.specs.declared.reading.Kind.{Kind}
 use Rattle.decoder.proofs.Bools.{each}
 use Rattle.decoder.proofs.Others.{from-data}
-use Rattle.pairs.specs.Mask.{hasTop, hasPlace, immediateOf, clearedBits, isDataMask, isBranchMask}
+use Rattle.pairs.specs.Mask.{hasTop, hasPlace, immediateOf, clearedBits, isDataMask, isBranchMask, testedBits, isTest}
 use Rattle.pairs.specs.Exact.{dataMaskValue, branchMaskValue, exactFields, isExactMask}
 
 module _ (r : ℕ) (not-9 : r ≡ 9 → ⊥) (not-15 : r ≡ 15 → ⊥) (k : Kind) where
@@ -28,3 +28,7 @@ module _ (r : ℕ) (not-9 : r ≡ 9 → ⊥) (not-15 : r ≡ 15 → ⊥) (k : Ki
   pub exact-branch-mask : isExactMask branchMaskValue r k ≡ true → isBranchMask r k ≡ true
   unfolding isBranchMask branchMaskValue
   exact-branch-mask e = ap (λ (v : ℕ). hasTop v && hasPlace v) (exact-clears branchMaskValue e)
+
+pub exact-test : (r : ℕ) (k : Kind) → testedBits r k ≡ dataMaskValue → isTest r k ≡ true
+unfolding isTest dataMaskValue
+exact-test r k e = ap hasTop e

@@ -1,5 +1,7 @@
 // Data masks, branch masks and test guards: the first words of the guarded pairs.
 use decoder::immediate::value;
+use decoder::question::PC;
+use decoder::question::THREAD;
 use decoder::reading::Kind;
 use decoder::reading::Operand;
 ghost use mathlib.Core.Path.{_≡_};
@@ -9,10 +11,6 @@ ghost use Rattle.pairs.specs.Mask.{hasTop, hasPlace, immediateOf, cleare
 const TST: u32 = 8;
 
 const BIC: u32 = 14;
-// No mask is from this register, nor from pc.
-const THREAD: u32 = 9;
-
-const PC: u32 = 15;
 
 // Bits 31 and 30, those above the sandbox, are set.
 fn has_top(value: u32) -> bool
@@ -41,7 +39,7 @@ fn immediate(right: bool, operand: Operand) -> u32
     value(rotation, byte)
 }
 
-// The bits that an immediate bic into r clears; none of another word.
+// The bits that an immediate bic into r clears, from any register but r9 and pc; none of another word.
 fn cleared(r: u32, kind: Kind) -> u32
     ensures { λ v. ⌜ v ≡ clearedBits r kind ⌝ }
 {

@@ -3,6 +3,7 @@ use crate::mask::is_branch_mask;
 use crate::mask::is_data_mask;
 use crate::mask::is_test;
 use decoder::question::NO_REGISTER;
+use decoder::question::PC;
 use decoder::question::SP;
 use decoder::question::base;
 use decoder::question::branch_register;
@@ -14,7 +15,6 @@ ghost use mathlib.Core.Path.{_≡_};
 ghost use Rattle.decoder.specs.Question.{baseOf};
 ghost use Rattle.pairs.specs.Pair.{canBeGuarded, maskGuards, testGuards, branchGuards, closes as «closes-sp», isPair};
 
-const PC: u32 = 15;
 // The conditions of a test guard and of the access that it guards.
 const ALWAYS: u32 = 14;
 

@@ -5,7 +5,9 @@ use decoder::place::Place;
 use decoder::place::direct_target;
 use decoder::place::literal;
 use decoder::question::NO_REGISTER;
+use decoder::question::PC;
 use decoder::question::SP;
+use decoder::question::THREAD;
 use decoder::question::base;
 use decoder::question::branch_register;
 use decoder::question::is_call;
@@ -24,10 +26,6 @@ use pairs::role::HEAD;
 use pairs::role::PLAIN;
 ghost use mathlib.Core.Path.{_≡_};
 ghost use Rattle.rules.specs.Rule.{rule4 as «r4», rule5 as «r5», rule6 as «r6», wantsGuard, rule7 as «r7», rule8 as «r8», rule9 as «r9», literalHolds, rule10 as «r10», wordAtAddress, landingOf, inTrampolines, landable as «can-land», rule11 as «r11», rulesOf, lowestFrom, faultOf};
-
-const THREAD: u32 = 9;
-
-const PC: u32 = 15;
 
 // 4: the word is in no class.
 pub fn rule4(kind: Kind) -> bool
