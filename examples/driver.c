@@ -20,7 +20,7 @@
 enum { CODE_START = 131072, TRAMPOLINE_FIRST = 65536, TRAMPOLINE_END = 131072, CODE_LIMIT = 65536 };
 static const bool TEST_PAIRS = true;
 
-enum { WORD = 4, ROLES = 4, REFUSALS = 14 };
+enum { WORD = 4, ROLES = 4, REFUSALS = 14, NO_CLASS = 4, WHYS = 4 };
 enum { ACCEPTED = 0, REFUSED = 1, UNREADABLE = 2 };
 
 static const char *const MEANING[REFUSALS + 1] = {
@@ -39,6 +39,14 @@ static const char *const MEANING[REFUSALS + 1] = {
     [12] = "the patch is not whole bundles that lie in the code",
     [13] = "the ledger does not fit the bundles that are to be replaced",
     [14] = "a branch from elsewhere would land inside a pair or on data",
+};
+
+static const char *const WHY[WHYS + 1] = {
+    [0] = "why, this driver does not know",
+    [AWL_WHY_CONDITION_15] = "its condition is 15",
+    [AWL_WHY_SYSTEM_CALL] = "it is a system call",
+    [AWL_WHY_REGISTER_INDEXED] = "it is a load or store indexed by a register",
+    [AWL_WHY_UNLISTED] = "it is of no kind that the gate knows",
 };
 
 /* Room for one byte more than the gate takes, so that a longer file is refused and not cut to fit. */
@@ -74,11 +82,14 @@ static bool read_offset(const char *text, uint64_t *offset)
 
 static int refuse(const char *name, uint64_t answer)
 {
-    uint32_t number = (uint32_t)answer, address = (uint32_t)(answer >> 32);
+    uint32_t number = awl_number(answer), why = awl_why(answer), address = awl_address(answer);
     fprintf(stderr, "%s: refused %" PRIu32, name, number);
     if (address != 0)
         fprintf(stderr, " at %" PRIu32, address);
-    fprintf(stderr, ": %s\n", MEANING[number <= REFUSALS ? number : 0]);
+    fprintf(stderr, ": %s", MEANING[number <= REFUSALS ? number : 0]);
+    if (number == NO_CLASS)
+        fprintf(stderr, ": %s", WHY[why <= WHYS ? why : 0]);
+    fprintf(stderr, "\n");
     return REFUSED;
 }
 

@@ -1,6 +1,6 @@
-/* The gate for untrusted 32-bit ARM add-ons. Each call answers 0 where it accepts; else the refusal's
- * number in the low 32 bits and its address, 0 where it has none, in the high 32. A refusal changes no
- * byte of code and no ledger entry.
+/* The gate for untrusted 32-bit ARM add-ons. Each call answers 0 where it accepts; else a refusal's
+ * number, address and why, which awl_number, awl_address and awl_why take out of the answer. A refusal
+ * changes no byte of code and no ledger entry.
  *
  * Any lengths and contents may be passed. What the caller must keep to:
  * - The pointers are good for their lengths, ledger does not overlap the bytes, and a pointer of length
@@ -26,6 +26,32 @@
 #ifdef __cplusplus
 extern "C" {
 #endif
+
+/* Why a word is in no class, which is number 4: the first of these that holds. */
+enum {
+    AWL_WHY_CONDITION_15 = 1,     /* its condition, bits 31..28, is 15 */
+    AWL_WHY_SYSTEM_CALL = 2,      /* its bits 27..24 are 15 */
+    AWL_WHY_REGISTER_INDEXED = 3, /* an access by two registers: bits 27..25 are 011, and bit 4 is 0 */
+    AWL_WHY_UNLISTED = 4          /* none of the above */
+};
+
+/* The refusal's number, bits 7..0: 1 to 14, and 0 where the call accepts. */
+static inline uint32_t awl_number(uint64_t answer)
+{
+    return (uint32_t)(answer & 0xFF);
+}
+
+/* Its why, bits 15..8: one of the four where the number is 4, and else 0. Bits 31..16 are 0. */
+static inline uint32_t awl_why(uint64_t answer)
+{
+    return (uint32_t)(answer >> 8 & 0xFF);
+}
+
+/* Its address, the high 32 bits: 0 where it has none. */
+static inline uint32_t awl_address(uint64_t answer)
+{
+    return (uint32_t)(answer >> 32);
+}
 
 /* Checks code that is to stand at code_start, with trampolines from trampoline_first up to, and not
  * with, trampoline_end. Where it accepts, each ledger entry is 4 x (direct branches that land on the

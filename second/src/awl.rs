@@ -53,7 +53,7 @@ pub fn check(layout: &Layout, code: &mut [u8], ledger: &mut [u32]) -> Outcome {
             ledger.len() as u64,
         )
     };
-    outcome(answer)
+    Outcome::of(answer)
 }
 
 /// The library's patch; the new bundles are lent for writing as the code above.
@@ -81,14 +81,5 @@ pub fn patch(
             new.len() as u64,
         )
     };
-    outcome(answer)
-}
-
-/// 0, or a refusal's number below its address. No word stands at address 0.
-fn outcome(answer: u64) -> Outcome {
-    let (number, address) = (answer as u32, (answer >> 32) as u32);
-    match answer {
-        0 => Outcome::Accepted,
-        _ => Outcome::Refused { number, address: (address != 0).then_some(address) },
-    }
+    Outcome::of(answer)
 }

@@ -31,7 +31,7 @@ pub enum Bundle {
 /// A word of code: its reading, and the pair it closes with the word before.
 #[derive(Clone, Copy)]
 pub struct Word {
-    pub reading: Option<Reading>,
+    pub reading: Reading,
     pub pair: Option<Pair>,
 }
 
@@ -41,11 +41,12 @@ impl Bundle {
         if u32::from_le_bytes(words[0]) == HEAD {
             return Bundle::Literals;
         }
-        let mut code = [Word { reading: None, pair: None }; SLOTS];
-        let mut before = None;
+        // Before slot 0 stands nothing: a word in no class makes no pair.
+        let mut before = read(!0);
+        let mut code = [Word { reading: before, pair: None }; SLOTS];
         for (word, bytes) in code.iter_mut().zip(words) {
             word.reading = read(u32::from_le_bytes(*bytes));
-            word.pair = pair(before, word.reading);
+            word.pair = pair(&before, &word.reading);
             before = word.reading;
         }
         Bundle::Code(code)

@@ -7,7 +7,9 @@ mod places;
 mod transfers;
 
 use crate::make::*;
-use crate::regions::{self, address, aim, bundle, region, some_low, some_mask, spoil, FREE};
+use crate::regions::{
+    self, address, aim, bundle, region, some_low, some_mask, some_unclassed, spoil, FREE,
+};
 use crate::rng::Rng;
 use crate::{Layout, CODE_LIMIT};
 
@@ -124,7 +126,7 @@ fn random(rng: &mut Rng) -> Case {
     Case::new(layout(rng, &words), &words)
 }
 
-/// A word of some class at the class's edge, with or without its neighbours.
+/// A word at the edge of its class or why, with or without its neighbours.
 fn edges(rng: &mut Rng) -> Case {
     let mut word = edge_word(rng);
     for _ in 0..rng.below(4) {
@@ -165,12 +167,12 @@ fn edge_guard(rng: &mut Rng, word: u32) -> u32 {
     guard
 }
 
-/// A word of some class, with conditions and registers at their edges.
+/// A word of some class or of none, with conditions and registers at their edges.
 fn edge_word(rng: &mut Rng) -> u32 {
     let c = edge_condition(rng);
     let [a, b, d] = [(); 3].map(|()| edge_register(rng));
     let low = rng.word() & 0xFFF;
-    match rng.below(17) {
+    match rng.below(19) {
         0 => data(c, rng.field(16), rng.field(2), a, b, IMMEDIATE | low),
         1 => data(c, rng.field(16), rng.field(2), a, b, low & 0xFE0 | d),
         2 => data(c, rng.field(16), rng.field(2), a, b, d << 8 | low & 0x6F | 0x10),
@@ -185,7 +187,8 @@ fn edge_word(rng: &mut Rng) -> u32 {
         12 | 13 => transfers::word(rng),
         14 => c << 28 | (0b1010 | rng.field(2)) << 24 | rng.word() & 0xF,
         15 => mask_from(c, a, rng.pick(&[b, SP]), some_low(rng, &DATA_BITS)),
-        _ => register_branch(c, rng.once_in(2), a),
+        16 => register_branch(c, rng.once_in(2), a),
+        _ => some_unclassed(rng),
     }
 }
 

@@ -1,4 +1,4 @@
-//! A second, plain reading of document 01, and of requests 1 and 3 of document
+//! A second, plain reading of document 01, and of requests 1, 3 and 6 of document
 //! 02: the check and the patch of a region of 32-bit ARM code, written from the
 //! papers alone.
 //!
@@ -35,3 +35,4 @@ pub use check::check;
 pub use layout::{Layout, BUNDLE, CODE_LIMIT, SANDBOX_END, TRAMPOLINES, WORD};
 pub use outcome::Outcome;
 pub use patch::patch;
+pub use word::Why;

@@ -66,6 +66,11 @@ pub fn access(condition: u32, letters: u32, rn: u32, rt: u32, distance: u32) -> 
     condition << 28 | 0b010 << 25 | letters << 20 | rn << 16 | rt << 12 | distance & 0xFFF
 }
 
+/// An access indexed by a register, if bit 4 of `low` is 0.
+pub fn indexed_access(condition: u32, letters: u32, rn: u32, rt: u32, low: u32) -> u32 {
+    access(condition, letters, rn, rt, low) | 1 << 25
+}
+
 /// A half access; its kind is bits 6 and 5.
 pub fn half_access(
     condition: u32,
@@ -100,6 +105,15 @@ pub fn branch(condition: u32, call: bool, own: u32, target: i64) -> u32 {
 pub fn register_branch(condition: u32, call: bool, rm: u32) -> u32 {
     let class = if call { 0x12_FFF3 } else { 0x12_FFF1 };
     condition << 28 | class << 4 | rm
+}
+
+pub fn system_call(condition: u32, number: u32) -> u32 {
+    condition << 28 | 15 << 24 | number & 0xFF_FFFF
+}
+
+/// A word for the coprocessors, one of three kinds.
+pub fn coprocessor(condition: u32, kind: u32, low: u32) -> u32 {
+    condition << 28 | (12 + kind) << 24 | low & 0xFF_FFFF
 }
 
 /// The mask that would guard this word, were it an access or a register branch;

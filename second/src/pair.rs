@@ -18,8 +18,7 @@ pub enum Pair {
 }
 
 /// The pair two neighbours make, if any.
-pub fn pair(first: Option<Reading>, second: Option<Reading>) -> Option<Pair> {
-    let (first, second) = (&first?, &second?);
+pub fn pair(first: &Reading, second: &Reading) -> Option<Pair> {
     match second.class {
         Class::Access(_) if needs_guard(second) => guard(first, second),
         Class::RegisterBranch => {

@@ -48,7 +48,7 @@ fn judge(
         return Err(fault.into());
     }
     if let Some(word) = counts.first_stranded(first, &after) {
-        return Err(Fault { address: region.address(word), number: STRANDED }.into());
+        return Err(Fault::classed(region.address(word), STRANDED).into());
     }
     Ok((0..).zip(counts.edited).map(|(word, count)| entry(role(word), count)).collect())
 }

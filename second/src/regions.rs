@@ -183,6 +183,20 @@ pub fn some_data(rng: &mut Rng, condition: u32) -> u32 {
     data(condition, operation, s, rn, rd, low)
 }
 
+/// A word in no class, but for the head's in slot 0: of any why, of condition 15
+/// and others at once, and with bit 4 either way.
+pub fn some_unclassed(rng: &mut Rng) -> u32 {
+    let condition = if rng.once_in(2) { 15 } else { some_condition(rng) };
+    let (rn, rt) = (rng.field(16), rng.field(16));
+    match rng.below(11) {
+        0..=3 => system_call(condition, rng.word()),
+        4..=7 => indexed_access(condition, rng.field(32), rn, rt, rng.word()),
+        8 => coprocessor(condition, rng.field(3), rng.word()),
+        9 => some_access(rng, 15, rn, rt),
+        _ => HEAD,
+    }
+}
+
 pub fn some_condition(rng: &mut Rng) -> u32 {
     if rng.once_in(2) {
         ALWAYS
@@ -205,7 +219,7 @@ pub fn aim(rng: &mut Rng, layout: &Layout, words: &mut [u32], part: Range<usize>
         (0..words.len()).filter(|&w| roles[w].is_target()).map(|w| address(layout, w)).collect();
     for word in part.filter(|&word| roles[word] != Role::Data) {
         let own = address(layout, word) as u32;
-        let Some(reading) = read(words[word]) else { continue };
+        let reading = read(words[word]);
         match reading.class {
             Class::Branch => {
                 let target = trampoline(rng, layout, own).unwrap_or_else(|| rng.pick(&targets));
@@ -246,12 +260,14 @@ pub fn edit(rng: &mut Rng, layout: &Layout, words: &[u32], part: Range<usize>) -
     edited
 }
 
-/// Damages one word: a bit turned, or another word in its place.
+/// Damages one word: a bit turned, or another word in its place, one in no class
+/// among others.
 pub fn spoil(rng: &mut Rng, words: &mut [u32]) {
     let place = rng.below(words.len());
-    match rng.below(4) {
+    match rng.below(8) {
         0 => words[place] = rng.word(),
         1 => words[place] = words[rng.below(words.len())],
+        2..=4 => words[place] = some_unclassed(rng),
         _ => words[place] ^= 1 << rng.field(32),
     }
 }

@@ -12,11 +12,11 @@ const FORBIDDEN: u32 = 1 << R9 | 1 << PC;
 /// The lowest number that the word in a slot breaks.
 pub fn broken(region: &Region, code: &[Word; SLOTS], slot: usize, address: u32) -> Option<u32> {
     let Word { reading, pair } = &code[slot];
-    let Some(reading) = reading else { return Some(CLASS) };
     if reading.names(FORBIDDEN) {
         return Some(REGISTER);
     }
     match reading.class {
+        Class::None => Some(CLASS),
         Class::Nop => None,
         Class::Data => {
             let closed = || code.get(slot + 1).is_some_and(|w| w.pair == Some(Pair::MaskedStack));

@@ -41,10 +41,11 @@ impl Survey {
         for (slot, word) in code.iter().enumerate() {
             let address = start + (WORD * slot) as u32;
             if self.fault.is_none() {
-                let number = broken(region, code, slot, address);
-                self.fault = number.map(|number| Fault { address, number });
+                if let Some(number) = broken(region, code, slot, address) {
+                    self.fault = Some(Fault { address, number, why: word.reading.why() });
+                }
             }
-            let target = word.reading.and_then(|reading| reading.target(address));
+            let target = word.reading.target(address);
             if let Some(word) = target.and_then(|target| region.word_at(target)) {
                 self.landings.push(Landing { from: address, on: word as u32 });
             }
@@ -54,7 +55,7 @@ impl Survey {
     /// The first fault among rules 4 to 11, given every word's role.
     pub fn first_fault(&self, role: impl Fn(usize) -> Role) -> Option<Fault> {
         let astray = self.landings.iter().find(|landing| !role(landing.on as usize).is_target());
-        let astray = astray.map(|landing| Fault { address: landing.from, number: TARGET });
+        let astray = astray.map(|landing| Fault::classed(landing.from, TARGET));
         self.fault.into_iter().chain(astray).min()
     }
 

@@ -8,8 +8,8 @@ pub const PC: u32 = 15;
 const TST: u32 = 8;
 const BIC: u32 = 14;
 
-/// A word in its class. A literal load is an access; the literal head is a
-/// matter of slots and so belongs to the bundle.
+/// A word in its class, or in none. A literal load is an access; the literal
+/// head is a matter of slots and so belongs to the bundle.
 #[derive(Clone, Copy, Debug, PartialEq, Eq)]
 pub struct Reading {
     pub class: Class,
@@ -25,6 +25,7 @@ pub enum Class {
     Access(Access),
     Branch,
     RegisterBranch,
+    None,
 }
 
 /// What an access moves.
@@ -38,12 +39,31 @@ pub enum Access {
     Multiple,
 }
 
-/// The reading of a word, or none where it is in no class.
-pub fn read(word: u32) -> Option<Reading> {
+/// Why a word is in no class, numbered in request 6's order.
+#[derive(Clone, Copy, Debug, PartialEq, Eq, PartialOrd, Ord)]
+pub enum Why {
+    /// Condition 15.
+    Condition = 1,
+    SystemCall = 2,
+    /// An access that is indexed by a register.
+    RegisterIndexed = 3,
+    Unlisted = 4,
+}
+
+impl Why {
+    pub const ALL: [Why; 4] =
+        [Why::Condition, Why::SystemCall, Why::RegisterIndexed, Why::Unlisted];
+}
+
+pub fn read(word: u32) -> Reading {
+    Reading { class: class(word).unwrap_or(Class::None), word }
+}
+
+fn class(word: u32) -> Option<Class> {
     if field(word, 28) == 15 {
         return None;
     }
-    let class = match word >> 25 & 7 {
+    match word >> 25 & 7 {
         0b000 if bit(word, 7) && bit(word, 4) => match half_kind(word) {
             0 => is_multiply(word).then_some(Class::Multiply),
             _ => is_half_access(word).then_some(Class::Access(Access::Half)),
@@ -57,8 +77,20 @@ pub fn read(word: u32) -> Option<Reading> {
         0b100 => is_multiple(word).then_some(Class::Access(Access::Multiple)),
         0b101 => Some(Class::Branch),
         _ => None,
-    };
-    class.map(|class| Reading { class, word })
+    }
+}
+
+/// What holds first of a word in no class.
+fn why(word: u32) -> Why {
+    if field(word, 28) == 15 {
+        Why::Condition
+    } else if field(word, 24) == 15 {
+        Why::SystemCall
+    } else if word >> 25 & 7 == 0b011 && !bit(word, 4) {
+        Why::RegisterIndexed
+    } else {
+        Why::Unlisted
+    }
 }
 
 /// Tells data words from the others with bits 27..25 of 001, or 000 without
@@ -123,6 +155,11 @@ fn field(word: u32, place: u32) -> u32 {
 }
 
 impl Reading {
+    /// Why the word is in no class, where it is in none.
+    pub fn why(&self) -> Option<Why> {
+        (self.class == Class::None).then(|| why(self.word))
+    }
+
     pub fn condition(&self) -> u32 {
         field(self.word, 28)
     }
@@ -162,7 +199,7 @@ impl Reading {
                 self.moved() & set != 0 || has(self.rn()) && !self.is_literal_load()
             }
             Class::RegisterBranch => has(self.rm()),
-            Class::Nop | Class::Branch => false,
+            Class::Nop | Class::Branch | Class::None => false,
         }
     }
 

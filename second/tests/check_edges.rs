@@ -2,9 +2,9 @@
 
 mod common;
 
-use common::{accepts, answer, refused, refused_at, refuses, LAYOUT, STALE};
+use common::{accepts, answer, in_no_class, refused, refused_at, refuses, LAYOUT, STALE};
 use second::make::*;
-use second::{check, Layout, Outcome};
+use second::{check, Layout, Outcome, Why};
 
 const N: u32 = NOP;
 const START: u32 = 131_072;
@@ -59,8 +59,10 @@ fn refusals_by_address_then_number() {
 
 #[test]
 fn classes() {
+    for word in [0xF3C0_0103, HEAD ^ 1 << 28] {
+        in_no_class(&[word], Why::Condition, START);
+    }
     for word in [
-        0xF3C0_0103,                        // condition 15
         0xE300_9000 | 2 << 20,              // bits 27..20 = 0x32, no nop
         0x0320_F000,                        // a nop but for its condition
         data(14, 8, 0, 1, 0, 2),            // tst without S
@@ -74,9 +76,9 @@ fn classes() {
         access(14, U, 13, 13, 0),           // write-back into Rt
         access(14, P | W, 15, 15, 0),
         register_branch(14, false, 0) ^ 1 << 8,
-        HEAD ^ 1 << 28,
+        HEAD ^ 1 << 29,
     ] {
-        refuses(&[word], 4, START);
+        in_no_class(&[word], Why::Unlisted, START);
     }
 }
 
@@ -208,7 +210,7 @@ fn roles_do_not_heed_the_switch_or_other_faults() {
     // With S the two make no pair, so the mask is plain and 6 comes second.
     refuses(&[to(2), data(14, MOV, 1, 0, SP, 1), mask(14, SP, 0x103)], 6, START + 4);
     // A word in no class is plain.
-    refuses(&[to(1), 0xFFFF_FFFF], 4, START + 4);
+    in_no_class(&[to(1), 0xFFFF_FFFF], Why::Condition, START + 4);
 }
 
 #[test]

@@ -1,11 +1,13 @@
-//! The families make what requests 1 and 3 add, sound and with but one thing
-//! wrong: here half accesses and multiple transfers, beside this file masks.
+//! The families make what requests 1, 3 and 6 add, sound and with but one thing
+//! wrong: here half accesses and multiple transfers, beside this file masks, and
+//! words in no class.
 
 mod common;
 mod masks;
+mod whys;
 
 use common::{answer_to_bytes, mended};
-use second::families::{of_patches, of_regions, Case};
+use second::families::{of_patches, of_regions, patches::Call, Case};
 use second::make::{words, B, I, L, NOP, P, W};
 use second::Outcome;
 use std::collections::BTreeMap;
@@ -95,15 +97,27 @@ impl Met {
     }
 
     /// Counts a near miss only where it alone keeps the region out.
-    fn refused(&mut self, case: &Case, number: u32, address: u32) {
+    fn refused(&mut self, case: &Case, refusal: Outcome) {
+        let Outcome::Refused { number, address: Some(address), .. } = refusal else { return };
         let place = (address - case.layout.code_start) as usize / 4;
-        let word = words(&case.code)[place];
+        let code = words(&case.code);
+        let word = code[place];
         for (name, _, _, mend) in NEAR.iter().filter(|near| near.1 == number && near.2(word)) {
             if mended(case, place, mend(word)) == Outcome::Accepted {
                 self.meet(name);
             }
         }
         masks::near(case, number, place).iter().for_each(|name| self.meet(name));
+        whys::met(&code, place, refusal.why()).iter().for_each(|name| self.meet(name));
+    }
+
+    /// The same of a patch, for the words it brings in.
+    fn refused_patch(&mut self, call: &Call, refusal: Outcome) {
+        let Outcome::Refused { number: 4..=11, why, address: Some(address) } = refusal else {
+            return;
+        };
+        let place = (address - call.layout.code_start) as usize / 4 - call.offset / 4;
+        whys::met(&words(&call.new), place, why).iter().for_each(|name| self.meet(name));
     }
 
     fn has(&self, least: usize, names: impl Iterator<Item = String>) {
@@ -121,10 +135,7 @@ fn met_in(count: u64, is: impl Fn(&str) -> bool) -> Met {
             let case = (family.make)(&mut rng);
             match answer_to_bytes(&case.layout, &case.code) {
                 Ok(ledger) => met.accepted(&words(&case.code), &ledger),
-                Err(Outcome::Refused { number, address: Some(address) }) => {
-                    met.refused(&case, number, address)
-                }
-                Err(_) => {}
+                Err(refusal) => met.refused(&case, refusal),
             }
         }
     }
@@ -137,6 +148,7 @@ fn regions() {
     let transfers = SOUND.iter().map(|kind| kind.0).chain(NEAR.iter().map(|kind| kind.0));
     met.has(20, transfers.map(str::to_string));
     met.has(1_500, masks::sound_names());
+    met.has(30, whys::names());
 }
 
 #[test]
@@ -159,6 +171,7 @@ fn patches() {
             if outcome == Outcome::Accepted {
                 met.accepted(&words(&call.new), &after.ledger[call.offset / 4..]);
             }
+            met.refused_patch(&call, outcome);
             masks::old(&call, outcome.number()).iter().for_each(|name| met.meet(name));
         }
     }
@@ -167,4 +180,5 @@ fn patches() {
     met.has(20, transfers.map(str::to_string));
     met.has(20, masks::old_names());
     met.has(500, masks::sound_names());
+    met.has(10, whys::names());
 }

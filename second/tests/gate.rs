@@ -61,7 +61,7 @@ fn bench_rows() {
     for row in fitting {
         let says = match row.says {
             Ok(_) => format!("accepted {} bytes\n", row.call.code.len()),
-            Err(Outcome::Refused { number, address: Some(address) }) => {
+            Err(Outcome::Refused { number, address: Some(address), .. }) => {
                 format!("refused {number} at {address}\n")
             }
             Err(refusal) => format!("refused {}\n", refusal.number()),
@@ -69,7 +69,7 @@ fn bench_rows() {
         assert_eq!(line_for(&row.call.code), says, "{:02X?}", row.call.code);
         rows += 1;
     }
-    assert!(rows > 55);
+    assert!(rows > 115);
 }
 
 #[test]

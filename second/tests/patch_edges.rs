@@ -2,9 +2,9 @@
 
 mod common;
 
-use common::{answer, refused, refused_at, LAYOUT};
+use common::{answer, no_class, refused, refused_at, LAYOUT};
 use second::make::*;
-use second::{patch, Layout, Outcome};
+use second::{patch, Layout, Outcome, Why};
 
 const N: u32 = NOP;
 const START: u32 = 131_072;
@@ -171,7 +171,8 @@ fn stranded_branches() {
     // A head may be landed on, its data may not.
     assert_eq!(state.patch(4, &[HEAD, 0, 0, 0]), Err(refused_at(14, START + 20)));
     // 14 comes after every other rule, at any address.
-    assert_eq!(state.patch(4, &[inner[0], inner[1], N, !0]), Err(refused_at(4, START + 28)));
+    let late = [inner[0], inner[1], N, !0];
+    assert_eq!(state.patch(4, &late), Err(no_class(Why::Condition, START + 28)));
     // The patch's own old branches strand nobody.
     let own = State::checked(&[N, N, N, N, to(4, 5), N, N, N]);
     assert_eq!(own.patch(4, &inner).unwrap().1, [0, 0, 0, 0, 0, 1, 0, 0]);

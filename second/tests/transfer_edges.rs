@@ -2,9 +2,10 @@
 
 mod common;
 
-use common::{accepts, answer, refused_at, refuses, LAYOUT};
+use common::{accepts, answer, in_no_class, refused_at, refuses, LAYOUT};
 use second::make::*;
 use second::Layout;
+use second::Why::{Condition, Unlisted};
 
 const START: u32 = 131_072;
 const HALF: u32 = 1;
@@ -25,33 +26,33 @@ fn half_classes() {
         for letters in [0, U, P, P | U, P | W, P | U | W] {
             let half = |letters, rt| half_access(14, letters, kind, 0, rt, 0xFF);
             accepts(&guarded(half(letters | I | L, 1)), &[0, 1, 0, 0]);
-            refuses(&guarded(half(letters | L, 1)), 4, START + 4); // by register
+            in_no_class(&guarded(half(letters | L, 1)), Unlisted, START + 4); // by register
             match kind {
                 HALF => accepts(&guarded(half(letters | I, 1)), &[0, 1, 0, 0]),
-                _ => refuses(&guarded(half(letters | I, 1)), 4, START + 4),
+                _ => in_no_class(&guarded(half(letters | I, 1)), Unlisted, START + 4),
             }
             let own_base = guarded(half(letters | I | L, 0));
             match letters & (P | W) {
                 P => accepts(&own_base, &[0, 1, 0, 0]),
-                _ => refuses(&own_base, 4, START + 4),
+                _ => in_no_class(&own_base, Unlisted, START + 4),
             }
         }
         for letters in [I | W, I | W | L, I | W | U | L] {
-            refuses(&[half_access(14, letters, kind, SP, 1, 0)], 4, START);
+            in_no_class(&[half_access(14, letters, kind, SP, 1, 0)], Unlisted, START);
         }
     }
     // Bits 6..5 of 0 are the multiplies', which have no bit 22.
-    refuses(&[half_access(14, P | U | I | L, 0, SP, 1, 0)], 4, START);
-    refuses(&[half_access(15, P | U | I | L, HALF, SP, 1, 0)], 4, START);
+    in_no_class(&[half_access(14, P | U | I | L, 0, SP, 1, 0)], Unlisted, START);
+    in_no_class(&[half_access(15, P | U | I | L, HALF, SP, 1, 0)], Condition, START);
 }
 
 #[test]
 fn multiple_classes() {
     for letters in 0..32 {
         let transfer = |rn, list| multiple(14, letters, rn, list);
-        refuses(&guarded(transfer(0, 0)), 4, START + 4);
+        in_no_class(&guarded(transfer(0, 0)), Unlisted, START + 4);
         if letters & B != 0 {
-            refuses(&guarded(transfer(0, 2)), 4, START + 4);
+            in_no_class(&guarded(transfer(0, 2)), Unlisted, START + 4);
             continue;
         }
         accepts(&guarded(transfer(0, 0x5DFE)), &[0, 1, 0, 0]);
@@ -59,10 +60,10 @@ fn multiple_classes() {
         // The base in the list: W alone makes write-back.
         match letters & W {
             0 => accepts(&guarded(transfer(0, 3)), &[0, 1, 0, 0]),
-            _ => refuses(&guarded(transfer(0, 3)), 4, START + 4),
+            _ => in_no_class(&guarded(transfer(0, 3)), Unlisted, START + 4),
         }
     }
-    refuses(&[multiple(15, PUSH, SP, 1)], 4, START);
+    in_no_class(&[multiple(15, PUSH, SP, 1)], Condition, START);
 }
 
 #[test]
@@ -105,7 +106,7 @@ fn r13_moved() {
     }
     for letters in [0, L] {
         refuses(&[multiple(14, letters, SP, 1 << SP)], 6, START);
-        refuses(&[multiple(14, letters | W, SP, 1 << SP)], 4, START);
+        in_no_class(&[multiple(14, letters | W, SP, 1 << SP)], Unlisted, START);
     }
     // Base write-back is no such write.
     accepts(&[half_access(14, I | L, HALF, SP, 1, 8)], &[0; 4]);
@@ -154,6 +155,6 @@ fn roles() {
     // On r9 they are inner behind a mask, though both words break rule 5.
     refuses(&[to, mask_from(14, 0, 9, 0x103), multiple(14, L, 9, 1)], 11, START);
     // Out of their classes they are plain.
-    refuses(&[to, mask(14, 2, 0x103), multiple(14, L, 2, 0)], 4, START + 8);
-    refuses(&[to, mask(14, 2, 0x103), half_access(14, P, HALF, 2, 1, 0)], 4, START + 8);
+    in_no_class(&[to, mask(14, 2, 0x103), multiple(14, L, 2, 0)], Unlisted, START + 8);
+    in_no_class(&[to, mask(14, 2, 0x103), half_access(14, P, HALF, 2, 1, 0)], Unlisted, START + 8);
 }

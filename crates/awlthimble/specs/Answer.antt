@@ -5,13 +5,14 @@ use mathlib.Core.Bool.{Bool}
 use mathlib.Core.List.{List}
 use lib.ListN.{length}
 use Rattle.rules.specs.declared.layout.Layout.{Layout}
-use Rattle.rules.specs.Outcome.{Verdict, numberOf, placeOf}
+use Rattle.rules.specs.Outcome.{Verdict, numberOf, placeOf, whyIn}
 use Rattle.checker.specs.Check.{checkVerdict, ledgerOf, ledgerAfter}
 use Rattle.checker.specs.Patch.{patchVerdict, movedLedger}
 
--- 0 where accepted; else the number in the low 32 bits and the address, 0 where there is none, in the high 32
+-- 0 where accepted; else bits 7..0 are the number, bits 15..8 say why where the number is 4, bits 31..16 are 0, and the high 32 bits
+-- are the address, 0 where there is none
 unfoldable pub packed : Verdict → ℕ
-packed v = numberOf v + placeOf v * 2 ^ 32
+packed v = numberOf v + whyIn v * 2 ^ 8 + placeOf v * 2 ^ 32
 
 abbrev pub layoutOf : ℕ → ℕ → ℕ → Bool → Layout
 layoutOf start first end tests = record { «code_start» = start; «trampoline_first» = first; «trampoline_end» = end; «test_pairs» = tests }

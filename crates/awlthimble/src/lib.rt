@@ -1,12 +1,13 @@
 // The C interface: the calls again, on numbers and slices. A slice is a pointer and a length there.
-// An answer is one number: 0 where accepted, else the refusal's number in the low 32 bits and its
-// address, 0 where it has none, in the high 32.
+// An answer is one number: 0 where accepted; else bits 7..0 are the refusal's number, bits 15..8 say why
+// where that is 4, and the high 32 bits are its address, 0 where it has none. All other bits are 0.
 use checker::check::check;
 use checker::patch::patch;
 use rules::layout::Layout;
 use rules::outcome::Outcome;
 use rules::outcome::address;
 use rules::outcome::number;
+use rules::outcome::why;
 ghost use mathlib.Core.Path.{_≡_};
 ghost use Rattle.rules.specs.Outcome.{verdictOf};
 ghost use Rattle.awlthimble.specs.Answer.{packed, layoutOf, CheckAnswered, PatchAnswered};
@@ -16,7 +17,11 @@ fn answer(outcome: Outcome) -> u64
 {
     match outcome {
         Outcome::Accepted => 0,
-        Outcome::Refused(reason) => number(reason) as u64 + address(reason) as u64 * 0x1_0000_0000,
+        Outcome::Refused(reason) => {
+            number(reason) as u64
+                + why(reason) as u64 * 0x100
+                + address(reason) as u64 * 0x1_0000_0000
+        }
     }
 }
 

@@ -6,15 +6,17 @@ use mathlib.Core.Bool.{Bool, true, false}
 use mathlib.Core.List.{List, [], _∷_, map}
 use lib.ListN.{length}
 use Rattle.rules.specs.declared.layout.Layout.{Layout}
-use Rattle.rules.specs.Outcome.{Verdict, accepted, refused, refusedAt}
+use Rattle.rules.specs.Outcome.{Verdict, accepted, refused, refusedAt, noClass}
+use Rattle.decoder.specs.declared.reading.Why.{Why}
+use Rattle.decoder.specs.declared.reading.Why.the-variants.{Condition15, SystemCall, RegisterIndexed, Unlisted}
 use Rattle.decoder.specs.Bundle.{headWord, headReading, literalReading, readingsOf}
 use Rattle.pairs.specs.Role.{roleAlone, roleAfter, rolesOf}
 use Rattle.decoder.specs.Immediate.{rotated, valueOf}
 use Rattle.pairs.specs.Mask.{immediateOf, clearedBits, isDataMask, isBranchMask, testedBits, isTest}
 use Rattle.pairs.specs.Pair.{canBeGuarded, maskGuards, testGuards, branchGuards, closes, isPair}
 use Rattle.decoder.specs.Place.{behind, signedStep, targetOf, literalOf}
-use Rattle.decoder.specs.Question.{operandNames, names, baseOf, branchRegister, writesSp, keepsFlags, takesSp, isCall, isUnlisted}
-use Rattle.decoder.specs.Word.{isCompare, isMove, isData, operandOf, dataFields, isHalfMove, isNop, isMultiply, multiplyFields, isAnyAccess, isLiteralLoad, isAccess, accessFields, isBranch, isRegisterBranch, kindOf, readingOf}
+use Rattle.decoder.specs.Question.{operandNames, names, baseOf, branchRegister, writesSp, keepsFlags, takesSp, isCall, inNoClass}
+use Rattle.decoder.specs.Word.{isCompare, isMove, isData, operandOf, dataFields, isHalfMove, isNop, isMultiply, multiplyFields, isAnyAccess, isLiteralLoad, isAccess, accessFields, isBranch, isRegisterBranch, whyOf, kindOf, readingOf}
 use Rattle.rules.specs.Layout.{sandboxEnd, codeLimit, layoutHolds, lengthHolds}
 use Rattle.rules.specs.Rule.{rule4, rule5, rule6, wantsGuard, rule7, rule8, rule9, literalHolds, rule10, wordAtAddress, landingOf, inTrampolines, landable, rule11, rulesOf, lowestFrom, faultOf}
 use Rattle.checker.specs.Check.{codeFault, wordsVerdict, checkVerdict, entryOf, ledgerOf, ledgerAfter}
@@ -77,7 +79,7 @@ marked =
     ∷ checks true (0xEBFF_FFFE ∷ N ∷ N ∷ N ∷ []) (refusedAt 9 131072) kept
     ∷ checks true (0xE3C0_0103 ∷ 0xE580_1000 ∷ 0xEAFF_FFFD ∷ N ∷ []) (refusedAt 11 131080) kept
     ∷ checks true (0xE125_BE70 ∷ 0xFFFF_FFFF ∷ 0xFFFF_FFFF ∷ 0xFFFF_FFFF ∷ []) accepted (3 ∷ 2 ∷ 2 ∷ 2 ∷ [])
-    ∷ checks true (N ∷ 0xE125_BE70 ∷ N ∷ N ∷ []) (refusedAt 4 131076) kept
+    ∷ checks true (N ∷ 0xE125_BE70 ∷ N ∷ N ∷ []) (noClass Unlisted 131076) kept
     ∷ checks true (0xE1A0_D000 ∷ 0xE3CD_D103 ∷ N ∷ N ∷ []) accepted (0 ∷ 1 ∷ 0 ∷ 0 ∷ [])
     ∷ checks true (0xE1B0_D000 ∷ 0xE3CD_D103 ∷ N ∷ N ∷ []) (refusedAt 6 131072) kept
     ∷ checks true (0xE59F_0004 ∷ N ∷ N ∷ N ∷ []) accepted (0 ∷ 0 ∷ 0 ∷ 0 ∷ [])
@@ -113,12 +115,19 @@ paired a b = checks true (a ∷ b ∷ N ∷ N ∷ []) accepted (0 ∷ 1 ∷ 0 �
 abbrev refusedSecond : ℕ → ℕ → ℕ → Row
 refusedSecond a b n = checks true (a ∷ b ∷ N ∷ N ∷ []) (refusedAt n 131076) kept
 
+-- in no class, and why
+abbrev noClassAlone : ℕ → Why → Row
+noClassAlone w why = checks true (w ∷ N ∷ N ∷ N ∷ []) (noClass why 131072) kept
+
 -- behind a guard of r0
 abbrev guarded : ℕ → Row
 guarded w = paired 0xE3C0_0103 w
 
 abbrev refusedGuarded : ℕ → ℕ → Row
 refusedGuarded w n = refusedSecond 0xE3C0_0103 w n
+
+abbrev unlistedGuarded : ℕ → Row
+unlistedGuarded w = checks true (0xE3C0_0103 ∷ w ∷ N ∷ N ∷ []) (noClass Unlisted 131076) kept
 
 -- multiple transfers, then halfwords and signed bytes: the request's words, and three more
 abbrev pub transfers : List Row
@@ -128,21 +137,21 @@ transfers =
     ∷ refusedAlone 0xE8BD_8010 5
     ∷ guarded 0xE890_0006
     ∷ refusedAlone 0xE890_0006 7
-    ∷ refusedAlone 0xE8A0_0001 4
-    ∷ refusedAlone 0xE890_0000 4
-    ∷ refusedAlone 0xE8D0_0006 4
+    ∷ noClassAlone 0xE8A0_0001 Unlisted
+    ∷ noClassAlone 0xE890_0000 Unlisted
+    ∷ noClassAlone 0xE8D0_0006 Unlisted
     ∷ refusedAlone 0xE89D_2001 6
-    ∷ refusedAlone 0xE8BD_2001 4
+    ∷ noClassAlone 0xE8BD_2001 Unlisted
     ∷ refusedAlone 0xE880_2000 6
     ∷ guarded 0xE1D0_10B0
     ∷ guarded 0xE1D0_10D0
     ∷ guarded 0xE1D0_10F0
-    ∷ refusedGuarded 0xE1C0_10D0 4
-    ∷ refusedGuarded 0xE1C0_10F0 4
-    ∷ refusedAlone 0xE190_10B2 4
+    ∷ unlistedGuarded 0xE1C0_10D0
+    ∷ unlistedGuarded 0xE1C0_10F0
+    ∷ noClassAlone 0xE190_10B2 Unlisted
     ∷ refusedAlone 0xE1DF_10B4 5
     ∷ refusedGuarded 0xE1D0_D0B0 6
-    ∷ refusedAlone 0xE0F0_10B2 4
+    ∷ noClassAlone 0xE0F0_10B2 Unlisted
     ∷ paired 0xE310_0103 0x01D0_10B0
     ∷ refusedAlone 0xE99F_0001 5
     ∷ guarded 0xE1C0_10B0
@@ -169,9 +178,27 @@ wider =
     ∷ checks true (0xE1A0_D000 ∷ 0xE3CD_D13F ∷ 0xE12F_FF1D ∷ N ∷ []) (refusedAt 6 131080) kept
     ∷ []
 
-words : (map computed marked ≡ map given marked) × (map computed more ≡ map given more) × (map computed transfers ≡ map given transfers) × (map computed wider ≡ map given wider)
-unfolding headWord headReading literalReading readingsOf roleAlone roleAfter rolesOf rotated valueOf immediateOf clearedBits isDataMask isBranchMask testedBits isTest canBeGuarded maskGuards testGuards branchGuards closes isPair behind signedStep targetOf literalOf operandNames names baseOf branchRegister writesSp keepsFlags takesSp isCall isUnlisted isCompare isMove isData operandOf dataFields isHalfMove isNop isMultiply multiplyFields isAnyAccess isLiteralLoad isAccess accessFields isBranch isRegisterBranch kindOf readingOf sandboxEnd codeLimit layoutHolds lengthHolds rule4 rule5 rule6 wantsGuard rule7 rule8 rule9 literalHolds rule10 wordAtAddress landingOf inTrampolines landable rule11 rulesOf lowestFrom faultOf codeFault wordsVerdict checkVerdict entryOf ledgerOf sum firstFrom listFrom listOf wordAt bundleWords bundleAt readingAt beforeAt nextAt roleAt targetAt landingAt landings targetRole faultAt roleFrom standingFault all shapeHolds countsHold rolesAgree oldCounted countLess newFit strandedAt agrees strandedVerdict newWordsVerdict bundlesVerdict patchVerdict movedEntry movedLedger ledgerAfter
-words = (refl, refl, refl, refl)
+-- why a word is in no class: the request's words, the head's word in slots 1 to 3, others near by, and patches that bring such words in
+abbrev pub whys : List Row
+whys =
+    noClassAlone 0xF3C0_0103 Condition15
+    ∷ noClassAlone 0xEF00_0000 SystemCall
+    ∷ noClassAlone 0xE780_1002 RegisterIndexed
+    ∷ noClassAlone 0xE7F0_00F0 Unlisted
+    ∷ noClassAlone 0xE320_F001 Unlisted
+    ∷ noClassAlone 0xFF00_0000 Condition15
+    ∷ noClassAlone 0xF780_1002 Condition15
+    ∷ noClassAlone 0xE780_1012 Unlisted
+    ∷ noClassAlone 0xEE00_0000 Unlisted
+    ∷ checks true (N ∷ N ∷ 0xE125_BE70 ∷ N ∷ []) (noClass Unlisted 131080) kept
+    ∷ checks true (N ∷ N ∷ N ∷ 0xE125_BE70 ∷ []) (noClass Unlisted 131084) kept
+    ∷ patches (0 ∷ 0 ∷ 0 ∷ 0 ∷ 0 ∷ 0 ∷ 0 ∷ 0 ∷ []) 16 (N ∷ N ∷ N ∷ N ∷ []) (N ∷ 0xE780_1002 ∷ 0xEF00_0000 ∷ N ∷ []) (noClass RegisterIndexed 131092) (0 ∷ 0 ∷ 0 ∷ 0 ∷ 0 ∷ 0 ∷ 0 ∷ 0 ∷ [])
+    ∷ patches (0 ∷ 0 ∷ 0 ∷ 0 ∷ 0 ∷ 4 ∷ 0 ∷ 0 ∷ []) 16 (N ∷ N ∷ N ∷ N ∷ []) (0xE3C0_0103 ∷ 0xE580_1000 ∷ N ∷ 0xEF00_0000 ∷ []) (noClass SystemCall 131100) (0 ∷ 0 ∷ 0 ∷ 0 ∷ 0 ∷ 4 ∷ 0 ∷ 0 ∷ [])
+    ∷ []
+
+words : (map computed marked ≡ map given marked) × (map computed more ≡ map given more) × (map computed transfers ≡ map given transfers) × (map computed wider ≡ map given wider) × (map computed whys ≡ map given whys)
+unfolding headWord headReading literalReading readingsOf roleAlone roleAfter rolesOf rotated valueOf immediateOf clearedBits isDataMask isBranchMask testedBits isTest canBeGuarded maskGuards testGuards branchGuards closes isPair behind signedStep targetOf literalOf operandNames names baseOf branchRegister writesSp keepsFlags takesSp isCall inNoClass isCompare isMove isData operandOf dataFields isHalfMove isNop isMultiply multiplyFields isAnyAccess isLiteralLoad isAccess accessFields isBranch isRegisterBranch whyOf kindOf readingOf sandboxEnd codeLimit layoutHolds lengthHolds rule4 rule5 rule6 wantsGuard rule7 rule8 rule9 literalHolds rule10 wordAtAddress landingOf inTrampolines landable rule11 rulesOf lowestFrom faultOf codeFault wordsVerdict checkVerdict entryOf ledgerOf sum firstFrom listFrom listOf wordAt bundleWords bundleAt readingAt beforeAt nextAt roleAt targetAt landingAt landings targetRole faultAt roleFrom standingFault all shapeHolds countsHold rolesAgree oldCounted countLess newFit strandedAt agrees strandedVerdict newWordsVerdict bundlesVerdict patchVerdict movedEntry movedLedger ledgerAfter
+words = (refl, refl, refl, refl, refl)
 
 pub bench-words : map computed marked ≡ map given marked
 bench-words = words .0
@@ -184,3 +211,6 @@ transfer-words = words .2
 
 pub wider-words : map computed wider ≡ map given wider
 wider-words = words .3
+
+pub why-words : map computed whys ≡ map given whys
+why-words = words .4

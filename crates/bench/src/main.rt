@@ -1,5 +1,5 @@
-// The paper's words from the bench, then those of multiple transfers, halfwords and wider masks, run
-// through the calls and, row by row, printed: what a call answers, and the ledger where it accepts.
+// The paper's words from the bench, then those of multiple transfers, halfwords, wider masks and whys,
+// run through the calls and, row by row, printed: what a call answers, and the ledger where it accepts.
 // The set that the paper marks and the words of the requests are proved besides, as tables over the
 // definitions (proofs/Table.antt).
 use checker::check::check;
@@ -11,6 +11,7 @@ use rules::outcome::Reason;
 use rules::outcome::address;
 use rules::outcome::carries_address;
 use rules::outcome::number;
+use rules::outcome::why;
 
 // The nop, as the paper has it.
 const N: u32 = 0xE320_F000;
@@ -30,6 +31,10 @@ fn print_reason(reason: Reason) {
     if carries_address(reason) {
         io::write_all(STDOUT_FILENO, b" at ");
         io::print_decimal(STDOUT_FILENO, address(reason) as u64);
+    }
+    if why(reason) != 0 {
+        io::write_all(STDOUT_FILENO, b", why ");
+        io::print_decimal(STDOUT_FILENO, why(reason) as u64);
     }
     io::write_all(STDOUT_FILENO, b"\n");
 }
@@ -228,6 +233,20 @@ fn wider_masks() {
     bundle(0xE1A0_D000, 0xE3CD_D13F, 0xE12F_FF1D, N);
 }
 
+fn whys() {
+    bundle(0xF3C0_0103, N, N, N);
+    bundle(0xEF00_0000, N, N, N);
+    bundle(0xE780_1002, N, N, N);
+    bundle(0xE7F0_00F0, N, N, N);
+    bundle(0xE320_F001, N, N, N);
+    bundle(0xFF00_0000, N, N, N);
+    bundle(0xF780_1002, N, N, N);
+    bundle(0xE780_1012, N, N, N);
+    bundle(0xEE00_0000, N, N, N);
+    bundle(N, N, 0xE125_BE70, N);
+    bundle(N, N, N, 0xE125_BE70);
+}
+
 // One bundle patched; the ledger afterwards.
 fn patched(ledger: [u32; 8], offset: usize, old: [u8; 16], new: [u8; 16]) -> [u32; 8] {
     let mut after = ledger;
@@ -262,6 +281,15 @@ fn old_ledger() {
     patched([0, 0, 0, 0, 0, 0, 0, 0], 0, sp, nops);
 }
 
+// Patches that bring in words of no class, the first of two and one beside a stranded word.
+fn patched_whys() {
+    let nops = first_half(with_bundle([0u8; 32], 0, N, N, N, N));
+    let two = first_half(with_bundle([0u8; 32], 0, N, 0xE780_1002, 0xEF00_0000, N));
+    let beside = first_half(with_bundle([0u8; 32], 0, 0xE3C0_0103, 0xE580_1000, N, 0xEF00_0000));
+    patched([0, 0, 0, 0, 0, 0, 0, 0], 16, nops, two);
+    patched([0, 0, 0, 0, 0, 4, 0, 0], 16, nops, beside);
+}
+
 fn main() {
     masks();
     branches();
@@ -270,8 +298,10 @@ fn main() {
     multiple_transfers();
     halfwords();
     wider_masks();
+    whys();
     patches();
     old_ledger();
+    patched_whys();
     length_0();
     length_15();
     length_65552();

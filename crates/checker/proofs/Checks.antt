@@ -9,16 +9,19 @@ use lib.Dec.{eqb, ltb}
 use lib.ListN.{length, getD}
 use borrow.Author.Tests.{eq-eqb, ne-eqb, lt-ltb, le-ltb, le-leb, ltb-true}
 use Rattle.decoder.specs.declared.place.Place.{Place}
+use Rattle.decoder.specs.declared.reading.Reading.{Reading}
+use Rattle.decoder.specs.Question.{inNoClass}
 use Rattle.decoder.proofs.Bools.{by-test}
 use Rattle.rules.specs.declared.layout.Layout.{Layout}
 use Rattle.rules.specs.declared.outcome.Reason.{Reason}
 use Rattle.rules.specs.declared.outcome.Reason.the-variants.{Layout as LayoutBroken, CodeLength, LedgerLength}
 use Rattle.rules.specs.declared.outcome.Outcome.the-variants.{Accepted, Refused}
 use Rattle.rules.specs.Layout.{layoutHolds, lengthHolds, addressOf}
-use Rattle.rules.specs.Outcome.{Verdict, accepted, refusedAt, reasonVerdict}
+use Rattle.rules.specs.Outcome.{Verdict, accepted, reasonVerdict, refusalOf}
 use Rattle.rules.specs.Rule.{landingOf, faultOf}
 use Rattle.rules.proofs.Says.{layout-says, length-says}
-use Rattle.rules.proofs.Lowest.{lowest}
+use Rattle.rules.proofs.Reasons.{reason-not}
+use Rattle.rules.proofs.Lowest.{lowest, no-class-4}
 use Rattle.checker.specs.Lists.{firstFrom}
 use Rattle.checker.specs.parts.First.{First}
 use Rattle.checker.specs.Region.{roleAt, beforeAt, readingAt, nextAt}
@@ -26,6 +29,7 @@ use Rattle.checker.specs.Standing.{targetAt, landingAt, landings, target
 use Rattle.checker.specs.parts.Stands.{Stands}
 use Rattle.checker.specs.parts.Ledger.{Cleared, RolesWritten, Within, fits, canMove, MovedFirst}
 use Rattle.checker.specs.Check.{wordsOf, codeFault, wordsVerdict, checkVerdict, entryOf, ledgerOf, ledgerAfter, Checked}
+use Rattle.checker.proofs.Demands.{after-refusal}
 use Rattle.checker.proofs.First.{first-same, first-value, first-end}
 use Rattle.checker.proofs.Lists.{sum-most, all-yes, list-is}
 use Rattle.checker.proofs.Ledgers.{role-below}
@@ -55,6 +59,16 @@ unfolding standingFault codeFault
 same-fault l ledger code e k =
     ap (λ (n : ℕ). faultAt l n (roleFrom ledger code 0) code 0 k) e
     ∙ fault-same l (wordsOf code) (roleFrom ledger code 0) (roleAt code) code 0 k (whole-roles ledger code)
+
+-- what `reason` asks of a word and the lowest number that it breaks
+abbrev pub ReasonAsks : Reading → ℕ → Type 0
+ReasonAsks word number = (inNoClass (word .kind) ≡ eqb number 4) × (4 ≤ number) × (number ≤ 11)
+
+pub reason-asks : (l : Layout) (n : ℕ) (f : ℕ → ℕ) (bytes : List ℕ) (first k number : ℕ) → number ≡ faultAt l n f bytes first k → (number ≡ 0 → ⊥) → (word : Reading) → word ≡ readingAt bytes k → ReasonAsks word number
+unfolding faultAt
+reason-asks l n f bytes first k number e d word read =
+    let low = lowest l n _ _ _ _ _ _ (λ z. d (e ∙ z)) in
+    subst (λ (w : Reading). ReasonAsks w number) (sym read) (subst (ReasonAsks (readingAt bytes k)) (sym e) (no-class-4 l n _ _ _ _ _ _, low .from-4, low .to-11))
 
 -- ---- the verdict
 
@@ -112,19 +126,21 @@ module _ {l : Layout} {code before : List ℕ} (k : Kept l code before) where
       found-number : number ≡ codeFault l code at
       found-number = value .1 ∙ same-fault l before code (k .words) at
 
-      pub found-range : (4 ≤ number) × (number ≤ 11)
-      unfolding codeFault faultAt
-      found-range =
-          let e = found-number in
-          let low = lowest l (wordsOf code) _ _ _ _ _ _ (λ z. n (e ∙ z)) in
-          subst (λ (x : ℕ). (4 ≤ x) × (x ≤ 11)) (sym e) (low .from-4, low .to-11)
+      -- it can be read
+      pub found-reads : (length code % 16 ≡ 0) × (4 * at < length code)
+      found-reads = let inside = found-inside in (stands .whole, omega arith)
 
-      pub checked-word : (reason : Reason) → reasonVerdict reason ≡ refusedAt number (addressOf l at) → Checked l code before before (Refused reason)
-      unfolding wordsVerdict ledgerAfter
-      checked-word reason e =
-          let words : checkVerdict l code (length before) ≡ refusedAt number (addressOf l at) =
-          by-words ∙ rw (← first-is) (simp (lt-ltb at (wordsOf code) found-inside) (ap (λ (x : ℕ). refusedAt x (addressOf l at)) (sym found-number))) in
-          record { verdict = e ∙ sym words; ledger = sym (ap (λ (v : Verdict). ledgerAfter v (ledgerOf l code) before) words) }
+      module _ (word : Reading) (read : word ≡ readingAt code at) where
+        pub found-asks : ReasonAsks word number
+        unfolding codeFault
+        found-asks = reason-asks l (wordsOf code) (roleAt code) code 0 at number found-number n word read
+
+        pub checked-word : (reason : Reason) → reasonVerdict reason ≡ refusalOf (word .kind) number (addressOf l at) → Checked l code before before (Refused reason)
+        unfolding wordsVerdict
+        checked-word reason e =
+            let words : checkVerdict l code (length before) ≡ refusalOf (word .kind) number (addressOf l at) =
+            by-words ∙ rw (← first-is) (simp (lt-ltb at (wordsOf code) found-inside) (ap₂ (λ (w : Reading) (x : ℕ). refusalOf (w .kind) x (addressOf l at)) (sym read) (sym found-number))) in
+            record { verdict = e ∙ sym words; ledger = sym (after-refusal _ _ _ (λ z. reason-not reason (e ∙ sym words ∙ z))) }
 
     pub checked-all : number ≡ 0 → (after : List ℕ) → after ≡ ledgerOf l code → Checked l code before after Accepted
     unfolding wordsVerdict ledgerAfter

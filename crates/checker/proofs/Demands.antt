@@ -8,18 +8,20 @@ use mathlib.Core.Path.{_≡_, _∙_, refl, sym, ap, subst}
 use mathlib.Core.Logic.{_↔_}
 use mathlib.Core.Bool.{true, false, true≢false}
 use mathlib.Core.List.{List}
-use lib.Dec.{ltb}
+use lib.Dec.{eqb, ltb}
 use lib.ListN.{length, getD}
 use borrow.Author.Tests.{eq-eqb, ne-eqb, lt-ltb, le-ltb, ltb-true, ltb-false}
+use Rattle.decoder.specs.Question.{inNoClass}
 use Rattle.decoder.proofs.Bools.{by-test}
 use Rattle.rules.specs.declared.layout.Layout.{Layout}
 use Rattle.rules.specs.declared.outcome.Outcome.{Outcome}
 use Rattle.rules.specs.Layout.{layoutHolds, lengthHolds, addressOf}
-use Rattle.rules.specs.Outcome.{Verdict, accepted, refused, refusedAt, verdictOf}
+use Rattle.rules.specs.Outcome.{Verdict, accepted, refused, refusedAt, noClass, verdictOf, numberOf, carriesAddress, refusalOf}
 use Rattle.rules.proofs.Reasons.{verdict-tells}
-use Rattle.rules.proofs.Lowest.{fault-none, none-fault, lowest, lowest-is}
+use Rattle.rules.proofs.Lowest.{fault-none, none-fault, lowest, lowest-is, no-class-4}
+use Rattle.rules.proofs.Refusal.{refusal-carries, refusal-number}
 use Rattle.checker.specs.Lists.{firstFrom}
-use Rattle.checker.specs.Region.{roleAt}
+use Rattle.checker.specs.Region.{readingAt, roleAt}
 use Rattle.checker.specs.Standing.{landings, faultAt, breaksAt}
 use Rattle.checker.specs.Check.{wordsOf, codeFault, wordBreaks, wordsVerdict, checkVerdict, entryOf, ledgerOf, ledgerAfter, Checked}
 use Rattle.checker.specs.Patch.{movedLedger, patchVerdict, Patched}
@@ -30,8 +32,17 @@ use Rattle.checker.proofs.Lists.{list-length, list-at}
 pub refused-not : (a : ℕ) → refused a ≡ accepted → ⊥
 refused-not a e = let z : _≡_ {A = ℕ} 1 0 = cc in omega arith
 
-pub refused-at-not : (a b : ℕ) → refusedAt a b ≡ accepted → ⊥
-refused-at-not a b e = let z : _≡_ {A = ℕ} 1 0 = cc in omega arith
+-- an answer with an address is none without
+pub addressed-not : (v w : Verdict) → carriesAddress v ≡ true → carriesAddress w ≡ false → v ≡ w → ⊥
+addressed-not v w p q e = true≢false (sym p ∙ ap carriesAddress e ∙ q)
+
+-- and changes nothing
+pub after-refusal : (v : Verdict) (new old : List ℕ) → (v ≡ accepted → ⊥) → ledgerAfter v new old ≡ old
+unfolding ledgerAfter
+after-refusal accepted new old d = absurd (d refl)
+after-refusal (refused a) new old d = refl
+after-refusal (refusedAt a b) new old d = refl
+after-refusal (noClass a b) new old d = refl
 
 module _ (l : Layout) (code : List ℕ) where
   -- word k meets every rule
@@ -68,6 +79,10 @@ module _ (l : Layout) (code : List ℕ) where
   unfolding codeFault faultAt wordBreaks breaksAt
   lowest-fault k number b h = lowest-is l (wordsOf code) _ _ _ _ _ _ number b h
 
+  fault-4 : (k : ℕ) → inNoClass (readingAt code k .kind) ≡ eqb (codeFault l code k) 4
+  unfolding codeFault faultAt
+  fault-4 k = no-class-4 l (wordsOf code) _ _ _ _ _ _
+
   breaks-not-zero : (k number : ℕ) → wordBreaks l code k number ≡ true → codeFault l code k ≡ 0 → ⊥
   breaks-not-zero k number b z = true≢false (sym b ∙ fault-meets k z number)
 
@@ -84,7 +99,14 @@ module _ (l : Layout) (code : List ℕ) where
   unfolding first
   all-to-end h = first-none (codeFault l code) 0 (wordsOf code) (λ j a b. meets-fault j (h j (omega arith))) ∙ zero-add (wordsOf code)
 
-  words-refuse : first < wordsOf code → wordsVerdict l code ≡ refusedAt (codeFault l code first) (addressOf l first)
+  -- the refusal of word k
+  abbrev pub refusal : ℕ → Verdict
+  refusal k = refusalOf (readingAt code k .kind) (codeFault l code k) (addressOf l k)
+
+  refusal-not : (k : ℕ) (v : Verdict) → carriesAddress v ≡ false → refusal k ≡ v → ⊥
+  refusal-not k v = addressed-not (refusal k) v (refusal-carries (readingAt code k .kind) (codeFault l code k) (addressOf l k))
+
+  words-refuse : first < wordsOf code → wordsVerdict l code ≡ refusal first
   unfolding wordsVerdict first
   words-refuse h = simp (lt-ltb first (wordsOf code) h)
 
@@ -117,7 +139,7 @@ module _ (l : Layout) (code : List ℕ) where
   words-accepted : (wordsVerdict l code ≡ accepted) ↔ AllMeet
   words-accepted = (
     (λ e.
-        by-test (ltb first (wordsOf code)) (λ t. absurd (refused-at-not _ _ (sym (words-refuse (ltb-true _ _ t)) ∙ e)))
+        by-test (ltb first (wordsOf code)) (λ t. absurd (refusal-not first accepted refl (sym (words-refuse (ltb-true _ _ t)) ∙ e)))
         (λ t. let a = ltb-false first (wordsOf code) t in let b = first-most in to-end (omega arith))),
     λ h. words-accept (let e = all-to-end h in omega arith),
   )
@@ -133,32 +155,28 @@ module _ (l : Layout) (code : List ℕ) where
     pub accepted-exactly : (checkVerdict l code entries ≡ accepted) ↔ AllMeet
     accepted-exactly = ((λ e. words-accepted .0 (sym by-words ∙ e)), λ h. by-words ∙ words-accepted .1 h)
 
-    -- otherwise the lowest address that breaks one, with the lowest number there
-    pub refused-exactly : (k number : ℕ) → LowestBroken k number → checkVerdict l code entries ≡ refusedAt number (addressOf l k)
+    -- otherwise the lowest address that breaks one, with the lowest number there, and beside 4 the word's why
+    pub refused-exactly : (k number : ℕ) → LowestBroken k number → checkVerdict l code entries ≡ refusalOf (readingAt code k .kind) number (addressOf l k)
     refused-exactly k number b =
         let same = broken-first k number b in
         let inside = b .inside in
         let e = same .0 in
-        by-words ∙ words-refuse (omega arith) ∙ subst (λ (x : ℕ). refusedAt (codeFault l code x) (addressOf l x) ≡ refusedAt number (addressOf l k)) (sym e) (ap (λ (x : ℕ). refusedAt x (addressOf l k)) (same .1))
+        by-words ∙ words-refuse (omega arith) ∙ ap refusal e ∙ ap (λ (x : ℕ). refusalOf (readingAt code k .kind) x (addressOf l k)) (same .1)
 
     -- and there is no other answer
-    pub refused-only : (number at : ℕ) → checkVerdict l code entries ≡ refusedAt number at → (k : ℕ) × LowestBroken k number × (at ≡ addressOf l k)
-    refused-only number at e =
+    pub refused-only : (v : Verdict) → carriesAddress v ≡ true → checkVerdict l code entries ≡ v
+        → (k : ℕ) × LowestBroken k (numberOf v) × (v ≡ refusalOf (readingAt code k .kind) (numberOf v) (addressOf l k))
+    refused-only v carries e =
         by-test (ltb first (wordsOf code))
         (λ t.
         let h = ltb-true first (wordsOf code) t in
-        let same : refusedAt number at ≡ refusedAt (codeFault l code first) (addressOf l first) = sym e ∙ by-words ∙ words-refuse h in (
+        let same : v ≡ refusal first = sym e ∙ by-words ∙ words-refuse h in
+        let number : numberOf v ≡ codeFault l code first = ap numberOf same ∙ refusal-number _ _ _ (fault-4 first) in (
           first,
-          subst (LowestBroken first) (sym (number-of _ _ _ _ same)) (first-broken h),
-          address-of _ _ _ _ same,
+          subst (LowestBroken first) (sym number) (first-broken h),
+          same ∙ ap (λ (x : ℕ). refusalOf (readingAt code first .kind) x (addressOf l first)) (sym number),
         ))
-        (λ t. absurd (refused-at-not _ _ (sym e ∙ by-words ∙ words-accept (ltb-false _ _ t))))
-      where
-        number-of : (a b c d : ℕ) → refusedAt a b ≡ refusedAt c d → a ≡ c
-        number-of a b c d p = cc
-
-        address-of : (a b c d : ℕ) → refusedAt a b ≡ refusedAt c d → b ≡ d
-        address-of a b c d p = cc
+        (λ t. absurd (addressed-not v accepted carries refl (sym e ∙ by-words ∙ words-accept (ltb-false _ _ t))))
 
   -- On acceptance the ledger holds, for each word, its role and the number of direct branches that land on it
   pub ledger-entries : (length (ledgerOf l code) ≡ wordsOf code)
@@ -187,13 +205,7 @@ check-unique l code before a b r s p q = (verdict-tells r s (p .verdict ∙ sym 
 
 -- a refusal changes no entry
 pub refusal-keeps : (l : Layout) (code before after : List ℕ) (r : Outcome) → Checked l code before after r → (verdictOf r ≡ accepted → ⊥) → after ≡ before
-unfolding ledgerAfter
-refusal-keeps l code before after r p d = go (checkVerdict l code (length before)) refl
-  where
-    go : (v : Verdict) → checkVerdict l code (length before) ≡ v → after ≡ before
-    go accepted e = absurd (d (p .verdict ∙ e))
-    go (refused number) e = p .ledger ∙ ap (λ (v : Verdict). ledgerAfter v (ledgerOf l code) before) e
-    go (refusedAt number at) e = p .ledger ∙ ap (λ (v : Verdict). ledgerAfter v (ledgerOf l code) before) e
+refusal-keeps l code before after r p d = p .ledger ∙ after-refusal (checkVerdict l code (length before)) _ _ (λ e. d (p .verdict ∙ e))
 
 -- and so for the patch: one answer, one ledger and one state of the old bytes
 module _ (l : Layout) (ledger : List ℕ) (offset : ℕ) (old new : List ℕ) where
@@ -202,14 +214,6 @@ module _ (l : Layout) (ledger : List ℕ) (offset : ℕ) (old new : List ℕ) wh
 
   -- a refusal changes no entry and no byte
   pub refused-patch-keeps : (after bytes : List ℕ) (r : Outcome) → Patched l ledger offset old new after bytes r → (verdictOf r ≡ accepted → ⊥) → (after ≡ ledger) × (bytes ≡ old)
-  unfolding ledgerAfter
-  refused-patch-keeps after bytes r p d = go (patchVerdict l ledger offset old new) refl
-    where
-      kept : (v : Verdict) → patchVerdict l ledger offset old new ≡ v → (after ≡ ledgerAfter v (movedLedger l ledger (offset / 4) old new) ledger) × (bytes ≡ ledgerAfter v new old)
-      kept v e =
-          (p .ledger′ ∙ ap (λ (x : Verdict). ledgerAfter x (movedLedger l ledger (offset / 4) old new) ledger) e, p .bytes ∙ ap (λ (x : Verdict). ledgerAfter x new old) e)
-
-      go : (v : Verdict) → patchVerdict l ledger offset old new ≡ v → (after ≡ ledger) × (bytes ≡ old)
-      go accepted e = absurd (d (p .verdict ∙ e))
-      go (refused number) e = kept (refused number) e
-      go (refusedAt number at) e = kept (refusedAt number at) e
+  refused-patch-keeps after bytes r p d =
+      let no : patchVerdict l ledger offset old new ≡ accepted → ⊥ = λ e. d (p .verdict ∙ e) in
+      (p .ledger′ ∙ after-refusal _ _ _ no, p .bytes ∙ after-refusal _ _ _ no)

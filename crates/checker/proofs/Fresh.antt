@@ -2,9 +2,9 @@
 -- check of the edited region accepts, with the ledger that it writes; and never 13.
 use Prim.Native.Nat.{ℕ, _+_, _-_, _*_, _/_, _%_, _≤_, _<_}
 use native.Mathlib.Omega.{arith}
-use mathlib.Core.Path.{_≡_, _∙_, sym, ap, ap₂, subst}
+use mathlib.Core.Path.{_≡_, _∙_, refl, sym, ap, ap₂, subst}
 use mathlib.Core.Logic.{_↔_}
-use mathlib.Core.Bool.{true, cond}
+use mathlib.Core.Bool.{true, false, cond}
 use mathlib.Core.List.{List}
 use lib.Dec.{ltb, leb}
 use lib.ListN.{length, getD}
@@ -12,10 +12,11 @@ use borrow.Author.Tests.{eq-eqb, ne-eqb, le-leb, le-ltb, ltb-false}
 use Rattle.decoder.proofs.Bools.{by-test}
 use Rattle.rules.specs.declared.layout.Layout.{Layout}
 use Rattle.rules.specs.Layout.{layoutHolds, lengthHolds, addressOf}
-use Rattle.rules.specs.Outcome.{Verdict, accepted, refused, refusedAt}
+use Rattle.rules.specs.Outcome.{Verdict, accepted, refused, refusedAt, carriesAddress, refusalOf}
+use Rattle.rules.proofs.Refusal.{refusal-carries}
 use Rattle.rules.proofs.Says.{length-says}
 use Rattle.checker.specs.Lists.{all, firstFrom}
-use Rattle.checker.specs.Region.{roleAt}
+use Rattle.checker.specs.Region.{readingAt, roleAt}
 use Rattle.checker.specs.Standing.{landings}
 use Rattle.checker.specs.Check.{wordsOf, codeFault, checkVerdict, entryOf, ledgerOf}
 use Rattle.checker.specs.Patch.{shapeHolds, countsHold, rolesAgree, oldCounted, newFit, agrees, strandedVerdict, newWordsVerdict, movedEntry, movedLedger, bundlesVerdict, patchVerdict}
@@ -23,7 +24,7 @@ use Rattle.checker.specs.Edit.{Fits}
 use Rattle.checker.proofs.First.{first-miss, first-none}
 use Rattle.checker.proofs.Lists.{split, all-yes, list-is, list-length, list-at}
 use Rattle.checker.proofs.Checks.{landings-most}
-use Rattle.checker.proofs.Demands.{refused-not, refused-at-not, accepted-exactly, fault-meets, meets-fault, ledger-entries}
+use Rattle.checker.proofs.Demands.{refused-not, addressed-not, accepted-exactly, fault-meets, meets-fault, ledger-entries}
 use Rattle.checker.proofs.Accepted.{layout-held, length-held, all-meet}
 use Rattle.checker.proofs.Placed.{Placed, Parts, parts}
 use Rattle.checker.proofs.Edited.{role-same, edited-length}
@@ -158,17 +159,24 @@ module _ (l : Layout) (code : List ℕ) (is-accepted : checkVerdict l code (word
   abbrev Free : Type 0
   Free = (k : ℕ) → k < m → strand k ≡ 0
 
+  -- the refusal of new word k
+  abbrev refusal : ℕ → Verdict
+  refusal k = refusalOf (readingAt new k .kind) (fault k) (addressOf l (first + k))
+
+  refusal-not : (k : ℕ) (v : Verdict) → carriesAddress v ≡ false → refusal k ≡ v → ⊥
+  refusal-not k v = addressed-not (refusal k) v (refusal-carries (readingAt new k .kind) (fault k) (addressOf l (first + k)))
+
   words-go : Sound → Free → newWordsVerdict l ledger first old new ≡ accepted
   unfolding newWordsVerdict strandedVerdict
   words-go s f =
-      goes fault m (λ k. refusedAt (fault k) (addressOf l (first + k))) _ s
+      goes fault m refusal _ s
       ∙ goes strand m (λ k. refusedAt 14 (addressOf l (first + k))) accepted f
 
   words-went : newWordsVerdict l ledger first old new ≡ accepted → Sound × Free
   unfolding newWordsVerdict strandedVerdict
   words-went e =
-      let a = went fault m (λ k. refusedAt (fault k) (addressOf l (first + k))) (strandedVerdict l ledger first old new) (λ x. refused-at-not _ _) e in
-      let b = went strand m (λ k. refusedAt 14 (addressOf l (first + k))) accepted (λ x. refused-at-not _ _) (a .1) in
+      let a = went fault m refusal (strandedVerdict l ledger first old new) (λ k. refusal-not k accepted refl) e in
+      let b = went strand m (λ k. refusedAt 14 (addressOf l (first + k))) accepted (λ k. addressed-not _ accepted refl refl) (a .1) in
       (a .0, b .0)
 
   sound-after : Sound → Free → (j : ℕ) → j < n → codeFault l after j ≡ 0
@@ -209,8 +217,5 @@ module _ (l : Layout) (code : List ℕ) (is-accepted : checkVerdict l code (word
       let w = sym by-words ∙ e in
       let k = firstFrom fault 0 m in
       let s = firstFrom strand 0 m in
-      by-test (ltb k m) (λ t. at-not (fault k) (addressOf l (first + k)) 13 (sym (simp t) ∙ w))
-      (λ t. by-test (ltb s m) (λ u. at-not 14 (addressOf l (first + s)) 13 (sym (simp (t, u)) ∙ w)) (λ u. refused-not 13 (sym w ∙ simp (t, u))))
-    where
-      at-not : (a b c : ℕ) → refusedAt a b ≡ refused c → ⊥
-      at-not a b c q = let z : _≡_ {A = ℕ} 1 0 = cc in omega arith
+      by-test (ltb k m) (λ t. refusal-not k (refused 13) refl (sym (simp t) ∙ w))
+      (λ t. by-test (ltb s m) (λ u. addressed-not (refusedAt 14 (addressOf l (first + s))) (refused 13) refl refl (sym (simp (t, u)) ∙ w)) (λ u. refused-not 13 (sym w ∙ simp (t, u))))

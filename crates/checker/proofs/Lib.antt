@@ -12,6 +12,7 @@ pub mod Edited
 pub mod Recount
 pub mod Checks
 pub mod Demands
+pub mod Whys
 pub mod Accepted
 pub mod Refresh
 pub mod Fresh

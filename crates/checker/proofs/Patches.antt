@@ -2,12 +2,13 @@
 use Prim.Native.Nat.{ℕ, _+_, _-_, _*_, _/_, _%_, _^_, _≤_, _<_}
 use native.Mathlib.Nat.{zero-add}
 use native.Mathlib.Omega.{arith}
-use mathlib.Core.Path.{_≡_, _∙_, refl, sym, ap, subst}
+use mathlib.Core.Path.{_≡_, _∙_, refl, sym, ap, ap₂, subst}
 use mathlib.Core.Bool.{true, false, not, _&&_}
 use mathlib.Core.List.{List}
 use lib.Dec.{eqb, leb}
 use lib.ListN.{length, getD}
 use borrow.Author.Tests.{eqb-true, lt-ltb, le-ltb, le-leb, lt-leb, leb-true}
+use Rattle.decoder.specs.declared.reading.Reading.{Reading}
 use Rattle.decoder.proofs.Bools.{both}
 use Rattle.rules.specs.declared.layout.Layout.{Layout}
 use Rattle.rules.specs.declared.outcome.Reason.{Reason}
@@ -15,18 +16,20 @@ use Rattle.rules.specs.declared.outcome.Outcome.{Outcome}
 use Rattle.rules.specs.declared.outcome.Reason.the-variants.{Layout as LayoutBroken, CodeLength, PatchShape, Disagreement, Stranded}
 use Rattle.rules.specs.declared.outcome.Outcome.the-variants.{Accepted, Refused}
 use Rattle.rules.specs.Layout.{layoutHolds, lengthHolds, addressOf}
-use Rattle.rules.specs.Outcome.{Verdict, accepted, refusedAt, reasonVerdict}
+use Rattle.rules.specs.Outcome.{Verdict, accepted, reasonVerdict, refusalOf}
 use Rattle.rules.proofs.Says.{layout-says}
-use Rattle.rules.proofs.Lowest.{lowest}
+use Rattle.rules.proofs.Reasons.{reason-not}
 use Rattle.checker.specs.Lists.{firstFrom}
 use Rattle.checker.specs.parts.First.{First}
-use Rattle.checker.specs.Region.{roleAt}
+use Rattle.checker.specs.Region.{readingAt, roleAt}
 use Rattle.checker.specs.Standing.{landings, faultAt, roleFrom, standingFault}
 use Rattle.checker.specs.parts.Stands.{Stands, BothStand}
 use Rattle.checker.specs.parts.Ledger.{RolesWritten}
 use Rattle.checker.specs.Check.{wordsOf, ledgerAfter}
 use Rattle.checker.specs.Patch.{shapeHolds, countsHold, rolesAgree, oldCounted, countLess, newFit, agrees, strandedVerdict, newWordsVerdict, movedEntry, movedLedger, bundlesVerdict, patchVerdict, Patched}
 use Rattle.checker.specs.parts.Patch.{PatchedWords}
+use Rattle.checker.proofs.Demands.{after-refusal}
+use Rattle.checker.proofs.Checks.{ReasonAsks, reason-asks}
 use Rattle.checker.proofs.First.{first-value, first-end}
 use Rattle.checker.proofs.Lists.{split, list-is}
 use Rattle.checker.proofs.Undo.{Agreed, count-after}
@@ -36,19 +39,16 @@ module _ (l : Layout) (ledger : List ℕ) (first : ℕ) (old new : List ℕ) whe
   verdict = bundlesVerdict l ledger first old new
 
   -- a refusal, with nothing changed
-  refused-so : (reason : Reason) → verdict ≡ reasonVerdict reason → ((a b : List ℕ) → ledgerAfter (reasonVerdict reason) a b ≡ b) → (after : List ℕ) → after ≡ ledger → PatchedWords l ledger first old new after old (Refused reason)
-  refused-so reason v keeps after same =
-      record {
-        verdict = sym v;
-        ledger′ = same ∙ sym (ap (λ (x : Verdict). ledgerAfter x (movedLedger l ledger first old new) ledger) v ∙ keeps _ _);
-        bytes = sym (ap (λ (x : Verdict). ledgerAfter x new old) v ∙ keeps _ _);
-      }
+  refused-so : (reason : Reason) → verdict ≡ reasonVerdict reason → (after : List ℕ) → after ≡ ledger → PatchedWords l ledger first old new after old (Refused reason)
+  refused-so reason v after same =
+      let no : verdict ≡ accepted → ⊥ = λ e. reason-not reason (sym v ∙ e) in
+      record { verdict = sym v; ledger′ = same ∙ sym (after-refusal _ _ _ no); bytes = sym (after-refusal _ _ _ no) }
 
   -- ---- 13
 
   pub disagreed : agrees l ledger first old new ≡ false → PatchedWords l ledger first old new ledger old (Refused Disagreement)
-  unfolding bundlesVerdict ledgerAfter
-  disagreed e = refused-so Disagreement (simp e) (λ a b. refl) ledger refl
+  unfolding bundlesVerdict
+  disagreed e = refused-so Disagreement (simp e) ledger refl
 
   pub counts-disagree : countsHold ledger ≡ false → agrees l ledger first old new ≡ false
   unfolding agrees
@@ -92,19 +92,21 @@ module _ {l : Layout} {ledger : List ℕ} {first : ℕ} {old new mid : List ℕ}
       pub fault-inside : at < wordsOf new
       fault-inside = let v = value .0 in omega arith
 
-      pub fault-range : (4 ≤ number) × (number ≤ 11)
-      unfolding standingFault faultAt
-      fault-range =
-          let e = value .1 in
-          let low = lowest l (length ledger) _ _ _ _ _ _ (λ z. n (e ∙ z)) in
-          subst (λ (x : ℕ). (4 ≤ x) × (x ≤ 11)) (sym e) (low .from-4, low .to-11)
+      -- it can be read
+      pub fault-reads : (length new % 16 ≡ 0) × (4 * at < length new)
+      fault-reads = let inside = fault-inside in (g .stand .new′ .whole, omega arith)
 
-      pub faulty : (reason : Reason) (after : List ℕ) → reasonVerdict reason ≡ refusedAt number (addressOf l (first + at)) → after ≡ ledger → PatchedWords l ledger first old new after old (Refused reason)
-      unfolding newWordsVerdict ledgerAfter
-      faulty reason after e same =
-          let words : bundlesVerdict l ledger first old new ≡ refusedAt number (addressOf l (first + at)) =
-          by-words ∙ rw (← found .place) (simp (lt-ltb at (wordsOf new) fault-inside) (ap (λ (x : ℕ). refusedAt x (addressOf l (first + at))) (sym (value .1)))) in
-          refused-so l ledger first old new reason (words ∙ sym e) (λ a b. ap (λ (x : Verdict). ledgerAfter x a b) e) after same
+      module _ (word : Reading) (read : word ≡ readingAt new at) where
+        pub fault-asks : ReasonAsks word number
+        unfolding standingFault
+        fault-asks = reason-asks l (length ledger) (roleFrom ledger new first) new first at number (value .1) n word read
+
+        pub faulty : (reason : Reason) (after : List ℕ) → reasonVerdict reason ≡ refusalOf (word .kind) number (addressOf l (first + at)) → after ≡ ledger → PatchedWords l ledger first old new after old (Refused reason)
+        unfolding newWordsVerdict
+        faulty reason after e same =
+            let words : bundlesVerdict l ledger first old new ≡ refusalOf (word .kind) number (addressOf l (first + at)) =
+            by-words ∙ rw (← found .place) (simp (lt-ltb at (wordsOf new) fault-inside) (ap₂ (λ (w : Reading) (x : ℕ). refusalOf (w .kind) x (addressOf l (first + at))) (sym read) (sym (value .1)))) in
+            refused-so l ledger first old new reason (words ∙ sym e) after same
 
     module _ (z : number ≡ 0) where
       by-strand : bundlesVerdict l ledger first old new ≡ strandedVerdict l ledger first old new
@@ -114,9 +116,9 @@ module _ {l : Layout} {ledger : List ℕ} {first : ℕ} {old new mid : List ℕ}
           by-words ∙ rw top (simp (le-ltb (wordsOf new) (wordsOf new) (omega arith)))
 
       pub stranded : strand < wordsOf new → (address : ℕ) → address ≡ addressOf l (first + strand) → (after : List ℕ) → after ≡ ledger → PatchedWords l ledger first old new after old (Refused (Stranded address))
-      unfolding strandedVerdict ledgerAfter
+      unfolding strandedVerdict
       stranded h address e after same =
-          refused-so l ledger first old new (Stranded address) (by-strand ∙ rw (← g .moved .place refl, e) (simp (lt-ltb strand (wordsOf new) h))) (λ a b. refl) after same
+          refused-so l ledger first old new (Stranded address) (by-strand ∙ rw (← g .moved .place refl, e) (simp (lt-ltb strand (wordsOf new) h))) after same
 
       pub patched : wordsOf new ≤ strand → (after bytes : List ℕ) → after ≡ movedLedger l ledger first old new → bytes ≡ new → PatchedWords l ledger first old new after bytes Accepted
       unfolding strandedVerdict ledgerAfter

@@ -6,25 +6,20 @@ use mathlib.Core.List.{List, [], _∷_}
 use lib.ListN.{length, getD}
 use lib.Seq.{ext-getD}
 use Rattle.rules.specs.declared.layout.Layout.{Layout}
-use Rattle.rules.specs.Outcome.{Verdict, accepted, refused, refusedAt}
+use Rattle.rules.specs.Outcome.{Verdict, accepted, refused, refusedAt, noClass}
 use Rattle.checker.specs.Check.{wordsOf, checkVerdict, ledgerOf, ledgerAfter}
 use Rattle.checker.specs.Edit.{piece, edited, Edit, Fits, AllFit, standing, answer, codeThen, ledgerThen, whole-edit, AsFresh, AllAsFresh}
 use Rattle.checker.proofs.Lists.{split, list-length, list-at}
 use Rattle.checker.proofs.Edited.{edited-length, edited-in, edited-below, edited-above}
-use Rattle.checker.proofs.Demands.{refused-not, refused-at-not}
+use Rattle.checker.proofs.Demands.{refused-not, addressed-not, after-refusal}
 use Rattle.checker.proofs.Fresh.{exactly-fresh, fresh-ledger, never-13}
 
 -- an answer is acceptance or it is not
 decide : {P : Type 0} (v : Verdict) → (v ≡ accepted → P) → ((v ≡ accepted → ⊥) → P) → P
 decide accepted f g = f refl
 decide (refused a) f g = g (refused-not a)
-decide (refusedAt a b) f g = g (refused-at-not a b)
-
-after-refusal : (v : Verdict) (new old : List ℕ) → (v ≡ accepted → ⊥) → ledgerAfter v new old ≡ old
-unfolding ledgerAfter
-after-refusal accepted new old d = absurd (d refl)
-after-refusal (refused a) new old d = refl
-after-refusal (refusedAt a b) new old d = refl
+decide (refusedAt a b) f g = g (addressed-not (refusedAt a b) accepted refl refl)
+decide (noClass a b) f g = g (addressed-not (noClass a b) accepted refl refl)
 
 after-acceptance : (v : Verdict) (new old : List ℕ) → v ≡ accepted → ledgerAfter v new old ≡ new
 unfolding ledgerAfter

@@ -8,9 +8,9 @@ use lib.ListN.{length}
 use Rattle.rules.specs.declared.layout.Layout.{Layout}
 use Rattle.rules.specs.declared.outcome.Outcome.{Outcome}
 use Rattle.rules.specs.Layout.{layoutHolds, lengthHolds, addressOf}
-use Rattle.rules.specs.Outcome.{Verdict, accepted, refused, refusedAt, verdictOf}
+use Rattle.rules.specs.Outcome.{Verdict, accepted, refused, refusedAt, noClass, verdictOf, refusalOf}
 use Rattle.checker.specs.Lists.{firstFrom, listOf}
-use Rattle.checker.specs.Region.{roleAt}
+use Rattle.checker.specs.Region.{readingAt, roleAt}
 use Rattle.checker.specs.Standing.{landings, faultAt, breaksAt}
 
 -- the number of words of a region
@@ -25,11 +25,11 @@ codeFault l code k = faultAt l (wordsOf code) (roleAt code) code 0 k
 unfoldable pub wordBreaks : Layout → List ℕ → ℕ → ℕ → Bool
 wordBreaks l code k number = breaksAt l (wordsOf code) (roleAt code) code 0 k number
 
--- words by rising address, lowest number first
+-- words by rising address, lowest number first; beside 4, why
 unfoldable pub wordsVerdict : Layout → List ℕ → Verdict
 wordsVerdict l code =
     let k : ℕ = firstFrom (codeFault l code) 0 (wordsOf code) in
-    cond (ltb k (wordsOf code)) (refusedAt (codeFault l code k) (addressOf l k)) accepted
+    cond (ltb k (wordsOf code)) (refusalOf (readingAt code k .kind) (codeFault l code k) (addressOf l k)) accepted
 
 -- Order: 1, 2, 3; then words
 unfoldable pub checkVerdict : Layout → List ℕ → ℕ → Verdict
@@ -50,6 +50,7 @@ unfoldable pub ledgerAfter : Verdict → List ℕ → List ℕ → List ℕ
 ledgerAfter accepted new old = new
 ledgerAfter (refused number) new old = old
 ledgerAfter (refusedAt number at) new old = old
+ledgerAfter (noClass why at) new old = old
 
 -- what the check promises: the verdict, and every entry of the ledger afterwards
 pub record Checked (l : Layout) (code before after : List ℕ) (r : Outcome) : Type 0 where

@@ -9,9 +9,9 @@ use Rattle.rules.specs.declared.layout.Layout.{Layout}
 use Rattle.rules.specs.declared.outcome.Outcome.{Outcome}
 use Rattle.rules.specs.Layout.{layoutHolds, lengthHolds, addressOf}
 use Rattle.rules.specs.Rule.{landable}
-use Rattle.rules.specs.Outcome.{Verdict, accepted, refused, refusedAt, verdictOf}
+use Rattle.rules.specs.Outcome.{Verdict, accepted, refused, refusedAt, verdictOf, refusalOf}
 use Rattle.checker.specs.Lists.{all, firstFrom, listOf}
-use Rattle.checker.specs.Region.{roleAt}
+use Rattle.checker.specs.Region.{readingAt, roleAt}
 use Rattle.checker.specs.Standing.{landings, roleFrom, standingFault}
 use Rattle.checker.specs.Check.{wordsOf, ledgerAfter}
 
@@ -63,11 +63,11 @@ module _ (l : Layout) (ledger : List ℕ) (first : ℕ) (old new : List ℕ) whe
       let k : ℕ = firstFrom (strandedAt (countLess l ledger old first) new first) 0 (wordsOf new) in
       cond (ltb k (wordsOf new)) (refusedAt 14 (addressOf l (first + k))) accepted
 
-  -- 4 to 11 over the new words; then 14
+  -- 4 to 11 over the new words, beside 4 why; then 14
   unfoldable pub newWordsVerdict : Verdict
   newWordsVerdict =
       let k : ℕ = firstFrom (standingFault l ledger new first) 0 (wordsOf new) in
-      cond (ltb k (wordsOf new)) (refusedAt (standingFault l ledger new first k) (addressOf l (first + k))) strandedVerdict
+      cond (ltb k (wordsOf new)) (refusalOf (readingAt new k .kind) (standingFault l ledger new first k) (addressOf l (first + k))) strandedVerdict
 
   -- an entry afterwards: the old bundles' branches off and the new ones' on, and the role by the new bundles inside the patch
   unfoldable pub movedEntry : ℕ → ℕ

@@ -3,6 +3,9 @@ use crate::fault::first_fault;
 use crate::ledger::clear;
 use crate::ledger::move_landings;
 use crate::ledger::write_roles;
+use crate::region::reading_at;
+use decoder::reading::Kind;
+use decoder::reading::Reading;
 use rules::layout::Layout;
 use rules::layout::layout_holds;
 use rules::layout::length_holds;
@@ -10,18 +13,19 @@ use rules::outcome::Outcome;
 use rules::outcome::Reason;
 ghost use mathlib.Core.Path.{_≡_};
 ghost use Prim.Native.Nat.{_/_, _≤_};
+ghost use lib.Dec.{eqb};
 ghost use lib.ListN.{length};
-ghost use Rattle.rules.specs.Outcome.{refusedAt, reasonVerdict};
+ghost use Rattle.decoder.specs.Question.{inNoClass};
+ghost use Rattle.rules.specs.Outcome.{refusedAt, reasonVerdict, refusalOf};
 ghost use Rattle.checker.specs.parts.Stands.{Stands};
 ghost use Rattle.checker.specs.Check.{ledgerOf, Checked};
 
-// The reason of a rule from 4 to 11, with its address.
-pub(crate) fn reason(number: u32, at: u32) -> Reason
-    requires { ⌜ (4 ≤ number) × (number ≤ 11) ⌝ }
+// The reason of a rule from 5 to 11, with its address.
+fn listed_reason(number: u32, at: u32) -> Reason
+    requires { ⌜ (5 ≤ number) × (number ≤ 11) ⌝ }
     ensures { λ r. ⌜ reasonVerdict r ≡ refusedAt number at ⌝ }
 {
     match number {
-        4 => Reason::NoClass { at },
         5 => Reason::Register { at },
         6 => Reason::StackPointer { at },
         7 => Reason::Access { at },
@@ -29,6 +33,18 @@ pub(crate) fn reason(number: u32, at: u32) -> Reason
         9 => Reason::Call { at },
         10 => Reason::LiteralLoad { at },
         _ => Reason::Target { at },
+    }
+}
+
+// The reason of a word's lowest number, with its address; of a word in no class, with why.
+pub(crate) fn reason(word: Reading, number: u32, at: u32) -> Reason
+    requires { ⌜ (inNoClass (word .kind) ≡ eqb number 4) × (4 ≤ number) × (number ≤ 11) ⌝ }
+    ensures { λ r. ⌜ reasonVerdict r ≡ refusalOf (word .kind) number at ⌝ }
+{
+    let kind = word.kind;
+    match kind {
+        Kind::NoClass(why) => Reason::NoClass { why, at },
+        _ => listed_reason(number, at),
     }
 }
 
@@ -61,7 +77,7 @@ pub fn check(layout: Layout, code: &[u8], ledger: &mut [u32]) -> Outcome
     let number = found.number;
     if number != 0 {
         let at = layout.code_start + (4 * found.at) as u32;
-        return Outcome::Refused(reason(number, at));
+        return Outcome::Refused(reason(reading_at(code, found.at), number, at));
     }
     write_ledger(layout, code, ledger);
     Outcome::Accepted

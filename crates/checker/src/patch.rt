@@ -5,6 +5,7 @@ use crate::check::reason;
 use crate::fault::first_fault;
 use crate::ledger::move_landings;
 use crate::ledger::write_roles;
+use crate::region::reading_at;
 use crate::region::role_at;
 use rules::layout::Layout;
 use rules::layout::layout_holds;
@@ -160,7 +161,7 @@ fn patch_words(
     if number != 0 {
         exchange(layout, ledger, new, old, first);
         let at = address(layout, ledger, first + found.at);
-        return Outcome::Refused(reason(number, at));
+        return Outcome::Refused(reason(reading_at(new, found.at), number, at));
     }
     let strand = exchanged.strand;
     if strand < new.len() / 4 {

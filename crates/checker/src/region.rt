@@ -3,6 +3,7 @@ use decoder::bundle::reading;
 use decoder::bundle::readings;
 use decoder::reading::Kind;
 use decoder::reading::Reading;
+use decoder::reading::Why;
 use pairs::role::role_after;
 ghost use mathlib.Core.Path.{_≡_};
 ghost use Prim.Native.Nat.{_+_, _*_, _%_, _≤_, _<_};
@@ -57,7 +58,7 @@ fn blank() -> Reading
 {
     Reading {
         condition: 0,
-        kind: Kind::Unlisted,
+        kind: Kind::NoClass(Why::Unlisted),
     }
 }
 

@@ -9,9 +9,10 @@ use lib.Dec.{eqb}
 use lib.Pow.{shr-shr}
 use borrow.Author.Tests.{eqb-true, eq-eqb, ne-eqb, not-true}
 use Rattle.decoder.specs.Bits.{bits}
-use Rattle.decoder.specs.Word.{conditionOf, operationOf, sOf, isCompare, isData, isHalfMove, isNop, isMultiply, isAnyAccess, isLiteralLoad, isAccess, isBranch, isRegisterBranch, kindOf}
+use Rattle.decoder.specs.Word.{conditionOf, operationOf, sOf, isCompare, isData, isHalfMove, isNop, isMultiply, isAnyAccess, isLiteralLoad, isAccess, isBranch, isRegisterBranch, whyOf, kindOf}
 use Rattle.decoder.specs.Bundle.{headWord}
-use Rattle.decoder.specs.declared.reading.Kind.the-variants.{Unlisted}
+use Rattle.decoder.specs.declared.reading.Why.the-variants.{Condition15, Unlisted}
+use Rattle.decoder.specs.declared.reading.Kind.the-variants.{NoClass}
 use Rattle.decoder.proofs.Says.{Family, of-word, of-halfword, of-registers, data-shape, data-compare, half-move-says, multiply-says, access-says, literal-load-says, register-branch-says}
 
 -- the classes, in the paper's order
@@ -139,11 +140,11 @@ pub one-class : (w : ℕ) (c d : Class) → takes c w ≡ true → takes d w ≡
 one-class w c d ec ed = sym (named c w ec) ∙ named d w ed
 
 -- Bits 31..28 are the condition; 15 is in no class
-pub condition-15 : (w : ℕ) → conditionOf w ≡ 15 → kindOf w ≡ Unlisted
-unfolding kindOf
+pub condition-15 : (w : ℕ) → conditionOf w ≡ 15 → kindOf w ≡ NoClass Condition15
+unfolding kindOf whyOf
 condition-15 w e = simp (eq-eqb _ _ e)
 
--- in slots 1 to 3 of another bundle the head's word is in no class
-pub head-elsewhere : kindOf headWord ≡ Unlisted
-unfolding kindOf headWord isData isCompare isHalfMove isNop isMultiply isLiteralLoad isAnyAccess isAccess isBranch isRegisterBranch
+-- in slots 1 to 3 of another bundle the head's word is unlisted
+pub head-elsewhere : kindOf headWord ≡ NoClass Unlisted
+unfolding kindOf whyOf headWord isData isCompare isHalfMove isNop isMultiply isLiteralLoad isAnyAccess isAccess isBranch isRegisterBranch
 head-elsewhere = refl

@@ -8,12 +8,14 @@ use lib.Dec.{T}
 use mir.Val.{hasKey}
 use types.Run.{OneOf, miss}
 use denote.Enum.Declared.{tagOf}
-use Rattle.decoder.specs.Kinds.{ofData, ofAccess, ofLiteralLoad, ofBranch, ofRegisterBranch}
+use Rattle.decoder.specs.Kinds.{ofNoClass, ofData, ofAccess, ofLiteralLoad, ofBranch, ofRegisterBranch}
+use Rattle.decoder.specs.Question.{inNoClass}
+use Rattle.decoder.specs.declared.reading.Why.{Why}
 use Rattle.decoder.specs.declared.reading.DataFields.{DataFields}
 use Rattle.decoder.specs.declared.reading.MultiplyFields.{MultiplyFields}
 use Rattle.decoder.specs.declared.reading.AccessFields.{AccessFields}
 use Rattle.decoder.specs.declared.reading.Kind.{Kind}
-use Rattle.decoder.specs.declared.reading.Kind.the-variants.{Unlisted, Data, HalfMove, Nop, Multiply, Access, LiteralLoad, Branch, RegisterBranch, Head, Literal}
+use Rattle.decoder.specs.declared.reading.Kind.the-variants.{NoClass, Data, HalfMove, Nop, Multiply, Access, LiteralLoad, Branch, RegisterBranch, Head, Literal}
 use Rattle.decoder.proofs.reading.Kind as declared
 
 -- the kind's number, in the order of its declaration
@@ -30,7 +32,7 @@ listed true a m h = a
 listed false a m h = absurd (m tt h)
 
 pub others : (ks : List ℕ) (P : Kind → Type 0)
-    → asked (hasKey ks 0) (P Unlisted)
+    → asked (hasKey ks 0) ((why : Why) → P (NoClass why))
     → asked (hasKey ks 1) ((f : DataFields) → P (Data f))
     → asked (hasKey ks 2) ((top rd number : ℕ) → P (HalfMove top rd number))
     → asked (hasKey ks 3) (P Nop)
@@ -42,7 +44,7 @@ pub others : (ks : List ℕ) (P : Kind → Type 0)
     → asked (hasKey ks 9) (P Head)
     → asked (hasKey ks 10) ((low : ℕ) → P (Literal low))
     → (k : Kind) → OneOf ks (tag k) → P k
-others ks P a0 a1 a2 a3 a4 a5 a6 a7 a8 a9 a10 Unlisted h = listed (hasKey ks 0) a0 (miss ks 0) h
+others ks P a0 a1 a2 a3 a4 a5 a6 a7 a8 a9 a10 (NoClass why) h = listed (hasKey ks 0) a0 (miss ks 0) h why
 others ks P a0 a1 a2 a3 a4 a5 a6 a7 a8 a9 a10 (Data f) h = listed (hasKey ks 1) a1 (miss ks 1) h f
 others ks P a0 a1 a2 a3 a4 a5 a6 a7 a8 a9 a10 (HalfMove top rd number) h = listed (hasKey ks 2) a2 (miss ks 2) h top rd number
 others ks P a0 a1 a2 a3 a4 a5 a6 a7 a8 a9 a10 Nop h = listed (hasKey ks 3) a3 (miss ks 3) h
@@ -56,30 +58,34 @@ others ks P a0 a1 a2 a3 a4 a5 a6 a7 a8 a9 a10 (Literal low) h = listed (hasKey k
 
 -- a question of one kind has the other answer where that kind was left
 module _ {A : Type 0} where
+  pub other-no-class : (f : Why → A) (o : A) (k : Kind) → OneOf (1 ∷ 2 ∷ 3 ∷ 4 ∷ 5 ∷ 6 ∷ 7 ∷ 8 ∷ 9 ∷ 10 ∷ []) (tag k) → o ≡ ofNoClass f o k
+  other-no-class f o k h =
+      others (1 ∷ 2 ∷ 3 ∷ 4 ∷ 5 ∷ 6 ∷ 7 ∷ 8 ∷ 9 ∷ 10 ∷ []) (λ k. o ≡ ofNoClass f o k) tt (λ _. refl) (λ _ _ _. refl) refl (λ _. refl) (λ _. refl) (λ _ _ _. refl) (λ _ _. refl) (λ _ _. refl) refl (λ _. refl) k h
+
   pub other-data : (f : DataFields → A) (o : A) (k : Kind) → OneOf (0 ∷ 2 ∷ 3 ∷ 4 ∷ 5 ∷ 6 ∷ 7 ∷ 8 ∷ 9 ∷ 10 ∷ []) (tag k) → o ≡ ofData f o k
   other-data f o k h =
-      others (0 ∷ 2 ∷ 3 ∷ 4 ∷ 5 ∷ 6 ∷ 7 ∷ 8 ∷ 9 ∷ 10 ∷ []) (λ k. o ≡ ofData f o k) refl tt (λ _ _ _. refl) refl (λ _. refl) (λ _. refl) (λ _ _ _. refl) (λ _ _. refl) (λ _ _. refl) refl (λ _. refl) k h
+      others (0 ∷ 2 ∷ 3 ∷ 4 ∷ 5 ∷ 6 ∷ 7 ∷ 8 ∷ 9 ∷ 10 ∷ []) (λ k. o ≡ ofData f o k) (λ _. refl) tt (λ _ _ _. refl) refl (λ _. refl) (λ _. refl) (λ _ _ _. refl) (λ _ _. refl) (λ _ _. refl) refl (λ _. refl) k h
 
   pub other-access : (f : AccessFields → A) (o : A) (k : Kind) → OneOf (0 ∷ 1 ∷ 2 ∷ 3 ∷ 4 ∷ 6 ∷ 7 ∷ 8 ∷ 9 ∷ 10 ∷ []) (tag k) → o ≡ ofAccess f o k
   other-access f o k h =
-      others (0 ∷ 1 ∷ 2 ∷ 3 ∷ 4 ∷ 6 ∷ 7 ∷ 8 ∷ 9 ∷ 10 ∷ []) (λ k. o ≡ ofAccess f o k) refl (λ _. refl) (λ _ _ _. refl) refl (λ _. refl) tt (λ _ _ _. refl) (λ _ _. refl) (λ _ _. refl) refl (λ _. refl) k h
+      others (0 ∷ 1 ∷ 2 ∷ 3 ∷ 4 ∷ 6 ∷ 7 ∷ 8 ∷ 9 ∷ 10 ∷ []) (λ k. o ≡ ofAccess f o k) (λ _. refl) (λ _. refl) (λ _ _ _. refl) refl (λ _. refl) tt (λ _ _ _. refl) (λ _ _. refl) (λ _ _. refl) refl (λ _. refl) k h
 
   pub other-literal-load : (f : ℕ → ℕ → ℕ → A) (o : A) (k : Kind) → OneOf (0 ∷ 1 ∷ 2 ∷ 3 ∷ 4 ∷ 5 ∷ 7 ∷ 8 ∷ 9 ∷ 10 ∷ []) (tag k) → o ≡ ofLiteralLoad f o k
   other-literal-load f o k h =
-      others (0 ∷ 1 ∷ 2 ∷ 3 ∷ 4 ∷ 5 ∷ 7 ∷ 8 ∷ 9 ∷ 10 ∷ []) (λ k. o ≡ ofLiteralLoad f o k) refl (λ _. refl) (λ _ _ _. refl) refl (λ _. refl) (λ _. refl) tt (λ _ _. refl) (λ _ _. refl) refl (λ _. refl) k h
+      others (0 ∷ 1 ∷ 2 ∷ 3 ∷ 4 ∷ 5 ∷ 7 ∷ 8 ∷ 9 ∷ 10 ∷ []) (λ k. o ≡ ofLiteralLoad f o k) (λ _. refl) (λ _. refl) (λ _ _ _. refl) refl (λ _. refl) (λ _. refl) tt (λ _ _. refl) (λ _ _. refl) refl (λ _. refl) k h
 
   pub other-branch : (f : ℕ → ℕ → A) (o : A) (k : Kind) → OneOf (0 ∷ 1 ∷ 2 ∷ 3 ∷ 4 ∷ 5 ∷ 6 ∷ 8 ∷ 9 ∷ 10 ∷ []) (tag k) → o ≡ ofBranch f o k
   other-branch f o k h =
-      others (0 ∷ 1 ∷ 2 ∷ 3 ∷ 4 ∷ 5 ∷ 6 ∷ 8 ∷ 9 ∷ 10 ∷ []) (λ k. o ≡ ofBranch f o k) refl (λ _. refl) (λ _ _ _. refl) refl (λ _. refl) (λ _. refl) (λ _ _ _. refl) tt (λ _ _. refl) refl (λ _. refl) k h
+      others (0 ∷ 1 ∷ 2 ∷ 3 ∷ 4 ∷ 5 ∷ 6 ∷ 8 ∷ 9 ∷ 10 ∷ []) (λ k. o ≡ ofBranch f o k) (λ _. refl) (λ _. refl) (λ _ _ _. refl) refl (λ _. refl) (λ _. refl) (λ _ _ _. refl) tt (λ _ _. refl) refl (λ _. refl) k h
 
   pub other-register-branch : (f : ℕ → ℕ → A) (o : A) (k : Kind) → OneOf (0 ∷ 1 ∷ 2 ∷ 3 ∷ 4 ∷ 5 ∷ 6 ∷ 7 ∷ 9 ∷ 10 ∷ []) (tag k) → o ≡ ofRegisterBranch f o k
   other-register-branch f o k h =
-      others (0 ∷ 1 ∷ 2 ∷ 3 ∷ 4 ∷ 5 ∷ 6 ∷ 7 ∷ 9 ∷ 10 ∷ []) (λ k. o ≡ ofRegisterBranch f o k) refl (λ _. refl) (λ _ _ _. refl) refl (λ _. refl) (λ _. refl) (λ _ _ _. refl) (λ _ _. refl) tt refl (λ _. refl) k h
+      others (0 ∷ 1 ∷ 2 ∷ 3 ∷ 4 ∷ 5 ∷ 6 ∷ 7 ∷ 9 ∷ 10 ∷ []) (λ k. o ≡ ofRegisterBranch f o k) (λ _. refl) (λ _. refl) (λ _ _ _. refl) refl (λ _. refl) (λ _. refl) (λ _ _ _. refl) (λ _ _. refl) tt refl (λ _. refl) k h
 
   -- where the other answer is ruled out, the word is a data word
   pub from-data : (f : DataFields → A) (o : A) (P : A → Type 0) → (P o → ⊥) → (k : Kind) → P (ofData f o k) → (g : DataFields) × (k ≡ Data g) × P (f g)
   from-data f o P no′ (Data g) p = (g, refl, p)
-  from-data f o P no′ Unlisted p = absurd (no′ p)
+  from-data f o P no′ (NoClass why) p = absurd (no′ p)
   from-data f o P no′ (HalfMove top rd number) p = absurd (no′ p)
   from-data f o P no′ Nop p = absurd (no′ p)
   from-data f o P no′ (Multiply g) p = absurd (no′ p)
@@ -89,3 +95,18 @@ module _ {A : Type 0} where
   from-data f o P no′ (RegisterBranch call rm) p = absurd (no′ p)
   from-data f o P no′ Head p = absurd (no′ p)
   from-data f o P no′ (Literal low) p = absurd (no′ p)
+
+  -- what holds of the answer for each why, and of the other answer where the word is in a class, holds of the answer
+  pub by-class : (f : Why → A) (o : A) (P : A → Type 0) (k : Kind) → ((why : Why) → k ≡ NoClass why → P (f why)) → (inNoClass k ≡ false → P o) → P (ofNoClass f o k)
+  unfolding inNoClass
+  by-class f o P (NoClass why) yes′ no′ = yes′ why refl
+  by-class f o P (Data g) yes′ no′ = no′ refl
+  by-class f o P (HalfMove top rd number) yes′ no′ = no′ refl
+  by-class f o P Nop yes′ no′ = no′ refl
+  by-class f o P (Multiply g) yes′ no′ = no′ refl
+  by-class f o P (Access g) yes′ no′ = no′ refl
+  by-class f o P (LiteralLoad u rt distance) yes′ no′ = no′ refl
+  by-class f o P (Branch call offset) yes′ no′ = no′ refl
+  by-class f o P (RegisterBranch call rm) yes′ no′ = no′ refl
+  by-class f o P Head yes′ no′ = no′ refl
+  by-class f o P (Literal low) yes′ no′ = no′ refl

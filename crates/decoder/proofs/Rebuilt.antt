@@ -12,7 +12,7 @@ use lib.Arith.{digits-div, digits-mod}
 use borrow.Author.Tests.{eqb-true, eq-eqb, ne-eqb}
 use Rattle.decoder.specs.Bits.{bits}
 use Rattle.decoder.specs.Word.{conditionOf, isData, operandOf, dataFields, isHalfMove, halfMoveKind, isNop, isMultiply, multiplyFields, isLiteralLoad, literalLoadKind, isAccess, accessFields, isBranch, branchKind, isRegisterBranch, registerBranchKind, kindOf, readingOf}
-use Rattle.decoder.specs.Question.{isUnlisted}
+use Rattle.decoder.specs.Question.{inNoClass}
 use Rattle.decoder.specs.Bundle.{headWord, headReading, literalReading}
 use Rattle.decoder.specs.parts.Rebuild.{groupOf, operandBits, familyOf, bit22, movedBits, kindBits, wordOf}
 use Rattle.decoder.specs.declared.reading.Kind.the-variants.{Data, Nop, Multiply, Access}
@@ -105,8 +105,8 @@ register-branch-back w e =
 
 -- ---- a word
 
-kind-back : (w : ℕ) → isUnlisted (kindOf w) ≡ false → kindBits (kindOf w) ≡ w % 2 ^ 28
-unfolding kindOf isUnlisted
+kind-back : (w : ℕ) → inNoClass (kindOf w) ≡ false → kindBits (kindOf w) ≡ w % 2 ^ 28
+unfolding kindOf inNoClass
 kind-back w listed =
     by-test (eqb (conditionOf w) 15) (λ n. absurd (true≢false (simp n at listed)))
     (λ n. by-test (isData w) (λ e. simp (n, e) (data-back w e))
@@ -123,7 +123,7 @@ kind-back w listed =
 whole : (w : ℕ) → w < 2 ^ 32 → conditionOf w * 2 ^ 28 + w % 2 ^ 28 ≡ w
 whole w h = sym (mod-pow-add w 4 28) ∙ mod-eq-of-lt h
 
-pub rebuilt : (w : ℕ) → w < 2 ^ 32 → isUnlisted (kindOf w) ≡ false → wordOf (readingOf w) ≡ w
+pub rebuilt : (w : ℕ) → w < 2 ^ 32 → inNoClass (kindOf w) ≡ false → wordOf (readingOf w) ≡ w
 unfolding wordOf readingOf
 rebuilt w h listed = ap (λ (k : ℕ). conditionOf w * 2 ^ 28 + k) (kind-back w listed) ∙ whole w h
 

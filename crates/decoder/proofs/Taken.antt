@@ -1,4 +1,4 @@
--- The class that takes a word says its kind, and a word that none takes is unlisted, whatever order the classes are asked in.
+-- The class that takes a word says its kind, and a word that none takes is in no class, whatever order the classes are asked in.
 use Prim.Native.Nat.{ℕ, _≤_, _<_}
 use native.Mathlib.Nat.{not-le-of-lt}
 use native.Mathlib.Omega.{arith}
@@ -6,11 +6,12 @@ use mathlib.Core.Path.{_≡_, _∙_, refl, sym, ap}
 use mathlib.Core.Logic.{⊎-elim}
 use mathlib.Core.Bool.{Bool, true, false, true≢false}
 use lib.Dec.{eqb, lit≤}
-use borrow.Author.Tests.{eqb-true, eq-eqb}
+use borrow.Author.Tests.{eqb-true, eq-eqb, ne-eqb}
 use Rattle.decoder.specs.Bits.{bits}
-use Rattle.decoder.specs.Word.{conditionOf, isData, dataFields, isHalfMove, halfMoveKind, isNop, isMultiply, multiplyFields, isWordOrByte, isAnyAccess, isLiteralLoad, literalLoadKind, isAccess, accessFields, isBranch, branchKind, isRegisterBranch, registerBranchKind, kindOf}
+use Rattle.decoder.specs.Word.{conditionOf, isData, dataFields, isHalfMove, halfMoveKind, isNop, isMultiply, multiplyFields, isWordOrByte, isAnyAccess, isLiteralLoad, literalLoadKind, isAccess, accessFields, isBranch, branchKind, isRegisterBranch, registerBranchKind, whyOf, kindOf}
+use Rattle.decoder.specs.declared.reading.Why.the-variants.{SystemCall, RegisterIndexed}
 use Rattle.decoder.specs.declared.reading.Kind.{Kind}
-use Rattle.decoder.specs.declared.reading.Kind.the-variants.{Unlisted, Data, Nop, Multiply, Access}
+use Rattle.decoder.specs.declared.reading.Kind.the-variants.{NoClass, Data, Nop, Multiply, Access}
 use Rattle.decoder.proofs.Bools.{by-test}
 use Rattle.decoder.proofs.Says.{data-shape, half-move-says, multiply-says, register-branch-says}
 use Rattle.decoder.proofs.Classes.{Class, of-data, of-half-move, of-nop, of-multiply, of-access, of-literal-load, of-branch, of-register-branch, of-head, takes, one-class}
@@ -25,7 +26,7 @@ kindIn of-access w = Access (accessFields w)
 kindIn of-literal-load w = literalLoadKind w
 kindIn of-branch w = branchKind w
 kindIn of-register-branch w = registerBranchKind w
-kindIn of-head w = Unlisted
+kindIn of-head w = NoClass (whyOf w)
 
 abbrev place : Class → ℕ
 place of-data = 0
@@ -90,7 +91,7 @@ untaken-above w high five none =
     above : (b : Bool) → (b ≡ true → bits w 27 25 ≤ 1) → b ≡ false
     above b low = by-test b (λ t. absurd (not-le-of-lt high (low t))) (λ f. f)
 
-pub kind-untaken : (w : ℕ) → eqb (conditionOf w) 15 ≡ false → Untaken w → kindOf w ≡ Unlisted
+pub kind-untaken : (w : ℕ) → eqb (conditionOf w) 15 ≡ false → Untaken w → kindOf w ≡ NoClass (whyOf w)
 unfolding kindOf
 kind-untaken w k u =
     simp (k, u .data′, u .half-move, u .nop, u .multiply, no-literal-load w (u .any-access), no-access w (u .any-access), u .branch, u .register-branch)
@@ -99,3 +100,17 @@ kind-untaken w k u =
 pub access-taken : (w : ℕ) → isAnyAccess w ≡ true → isLiteralLoad w ≡ false → isAccess w ≡ true
 unfolding isAccess
 access-taken w a l = simp (a, l)
+
+-- a word that no class can take, and why
+module _ (w : ℕ) (n : conditionOf w ≡ 15 → ⊥) where
+  pub system-call : bits w 27 24 ≡ 15 → kindOf w ≡ NoClass SystemCall
+  unfolding isAnyAccess whyOf
+  system-call e =
+      let g : bits w 27 25 ≡ 7 = omega arith in
+      kind-untaken w (ne-eqb _ _ n) (untaken-above w (omega arith) (simp g) (simp g)) ∙ ap NoClass (simp (ne-eqb _ _ n, e))
+
+  pub register-indexed : bits w 27 25 ≡ 3 → bits w 4 4 ≡ 0 → kindOf w ≡ NoClass RegisterIndexed
+  unfolding isAnyAccess whyOf
+  register-indexed g b =
+      let high : bits w 27 24 ≡ 15 → ⊥ = λ e. omega arith in
+      kind-untaken w (ne-eqb _ _ n) (untaken-above w (omega arith) (simp g) (simp g)) ∙ ap NoClass (simp (ne-eqb _ _ n, ne-eqb _ _ high, g, b))

@@ -30,8 +30,10 @@ use Rattle.decoder.proofs.question.takes_sp.Kinds as takes-sp-kinds
 use Rattle.decoder.proofs.question.takes_sp.Reads as takes-sp
 use Rattle.decoder.proofs.question.is_call.Kinds as is-call-kinds
 use Rattle.decoder.proofs.question.is_call.Reads as is-call
-use Rattle.decoder.proofs.question.is_unlisted.Kinds as is-unlisted-kinds
-use Rattle.decoder.proofs.question.is_unlisted.Reads as is-unlisted
+use Rattle.decoder.proofs.question.in_no_class.Kinds as in-no-class-kinds
+use Rattle.decoder.proofs.question.in_no_class.Reads as in-no-class
+use Rattle.decoder.proofs.question.why_number.Kinds as why-number-kinds
+use Rattle.decoder.proofs.question.why_number.Reads as why-number
 use Rattle.decoder.proofs.question.transfer_bytes.Kinds as transfer-bytes-kinds
 use Rattle.decoder.proofs.question.transfer_bytes.Reads as transfer-bytes
 
@@ -78,8 +80,11 @@ takes-sp-unique a u v x y p q = p ∙ sym q
 pub is-call-unique : Unique is-call-kinds.ps is-call-kinds.r is-call.Post
 is-call-unique a u v x y p q = p ∙ sym q
 
-pub is-unlisted-unique : Unique is-unlisted-kinds.ps is-unlisted-kinds.r is-unlisted.Post
-is-unlisted-unique a u v x y p q = p ∙ sym q
+pub in-no-class-unique : Unique in-no-class-kinds.ps in-no-class-kinds.r in-no-class.Post
+in-no-class-unique a u v x y p q = p ∙ sym q
+
+pub why-number-unique : Unique why-number-kinds.ps why-number-kinds.r why-number.Post
+why-number-unique a u v x y p q = p ∙ sym q
 
 pub transfer-bytes-unique : Unique transfer-bytes-kinds.ps transfer-bytes-kinds.r transfer-bytes.Post
 transfer-bytes-unique a u v x y p q = p ∙ sym q

@@ -6,7 +6,8 @@ use lib.Dec.{eqb}
 use lib.ListN.{getD}
 use Rattle.decoder.specs.Bits.{bits}
 use Rattle.decoder.specs.Word.{conditionOf, readingOf}
-use Rattle.decoder.specs.declared.reading.Kind.the-variants.{Unlisted, Head, Literal}
+use Rattle.decoder.specs.declared.reading.Why.the-variants.{Unlisted}
+use Rattle.decoder.specs.declared.reading.Kind.the-variants.{NoClass, Head, Literal}
 use Rattle.decoder.specs.declared.reading.Reading.{Reading}
 
 -- Literal head: 0xE125BE70 in slot 0
@@ -20,7 +21,7 @@ headReading w = record { condition = conditionOf w; kind = Head }
 unfoldable pub literalReading : ℕ → Reading
 literalReading w = record { condition = conditionOf w; kind = Literal (bits w 27 0) }
 
--- the readings of four words. In slots 1 to 3 of another bundle the head's word is in no class, as `readingOf` has it
+-- the readings of four words. In slots 1 to 3 of another bundle the head's word is in no class, unlisted, as `readingOf` has it
 unfoldable pub readingsOf : List ℕ → List Reading
 readingsOf ws =
     cond (eqb (getD ws 0 0) headWord)
@@ -34,4 +35,4 @@ slotReading first word slot =
 
 -- the neighbour of slot 0 and of slot 3 outside the bundle: in no class, it guards and closes nothing
 abbrev pub blank : Reading
-blank = record { condition = 0; kind = Unlisted }
+blank = record { condition = 0; kind = NoClass Unlisted }

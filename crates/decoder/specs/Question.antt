@@ -4,15 +4,17 @@ use Prim.Native.Nat.{ℕ, zero, suc, _+_, _*_}
 use mathlib.Core.Bool.{Bool, true, false, not, _&&_, _||_, cond}
 use lib.Dec.{eqb}
 use Rattle.decoder.specs.Word.{isCompare, isMove, listNames}
-use Rattle.decoder.specs.Kinds.{ofData, ofAccess, ofRegisterBranch}
+use Rattle.decoder.specs.Kinds.{ofNoClass, ofData, ofAccess, ofRegisterBranch}
 use Rattle.decoder.specs.declared.reading.Operand.{Operand}
 use Rattle.decoder.specs.declared.reading.Operand.the-variants.{Immediate, Shifted, ShiftedByRs}
 use Rattle.decoder.specs.declared.reading.DataFields.{DataFields}
 use Rattle.decoder.specs.declared.reading.Moved.{Moved}
 use Rattle.decoder.specs.declared.reading.Moved.the-variants.{Word, Halfword, Registers}
 use Rattle.decoder.specs.declared.reading.MultiplyFields.{MultiplyFields}
+use Rattle.decoder.specs.declared.reading.Why.{Why}
+use Rattle.decoder.specs.declared.reading.Why.the-variants.{Condition15, SystemCall, RegisterIndexed, Unlisted}
 use Rattle.decoder.specs.declared.reading.Kind.{Kind}
-use Rattle.decoder.specs.declared.reading.Kind.the-variants.{Unlisted, Data, HalfMove, Nop, Multiply, Access, LiteralLoad, Branch, RegisterBranch, Head, Literal}
+use Rattle.decoder.specs.declared.reading.Kind.the-variants.{NoClass, Data, HalfMove, Nop, Multiply, Access, LiteralLoad, Branch, RegisterBranch, Head, Literal}
 
 -- an immediate names no register; without one Rm is named, and Rs only to shift by
 unfoldable pub operandNames : ℕ → Operand → Bool
@@ -43,7 +45,7 @@ names r (Multiply f) = multiplyNames r f
 names r (Access f) = eqb (f .rn) r || movedNames r (f .moved)
 names r (LiteralLoad u rt distance) = eqb rt r
 names r (RegisterBranch call rm) = eqb rm r
-names r Unlisted = false
+names r (NoClass why) = false
 names r Nop = false
 names r (Branch call offset) = false
 names r Head = false
@@ -83,7 +85,7 @@ takesSp (Access f) = (eqb (f .l) 1 && movedNames 13 (f .moved)) || listNames 13 
 takesSp (LiteralLoad u rt distance) = eqb rt 13
 takesSp (RegisterBranch call rm) = eqb rm 13
 takesSp (Data f) = false
-takesSp Unlisted = false
+takesSp (NoClass why) = false
 takesSp Nop = false
 takesSp (Branch call offset) = false
 takesSp Head = false
@@ -98,24 +100,21 @@ isCall (HalfMove top rd number) = false
 isCall (Multiply f) = false
 isCall (Access f) = false
 isCall (LiteralLoad u rt distance) = false
-isCall Unlisted = false
+isCall (NoClass why) = false
 isCall Nop = false
 isCall Head = false
 isCall (Literal low) = false
 
 -- the word is in no class
-unfoldable pub isUnlisted : Kind → Bool
-isUnlisted Unlisted = true
-isUnlisted (Data f) = false
-isUnlisted (HalfMove top rd number) = false
-isUnlisted Nop = false
-isUnlisted (Multiply f) = false
-isUnlisted (Access f) = false
-isUnlisted (LiteralLoad u rt distance) = false
-isUnlisted (Branch call offset) = false
-isUnlisted (RegisterBranch call rm) = false
-isUnlisted Head = false
-isUnlisted (Literal low) = false
+unfoldable pub inNoClass : Kind → Bool
+inNoClass k = ofNoClass (λ why. true) false k
+
+-- the number of a why, 1 to 4
+abbrev pub whyNumber : Why → ℕ
+whyNumber Condition15 = 1
+whyNumber SystemCall = 2
+whyNumber RegisterIndexed = 3
+whyNumber Unlisted = 4
 
 -- how many of the registers below n a list names
 unfoldable pub namedBelow : ℕ → ℕ → ℕ

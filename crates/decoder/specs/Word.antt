@@ -11,8 +11,10 @@ use Rattle.decoder.specs.declared.reading.MultiplyFields.{MultiplyFields
 use Rattle.decoder.specs.declared.reading.Moved.{Moved}
 use Rattle.decoder.specs.declared.reading.Moved.the-variants.{Word, Halfword, Registers}
 use Rattle.decoder.specs.declared.reading.AccessFields.{AccessFields}
+use Rattle.decoder.specs.declared.reading.Why.{Why}
+use Rattle.decoder.specs.declared.reading.Why.the-variants.{Condition15, SystemCall, RegisterIndexed, Unlisted}
 use Rattle.decoder.specs.declared.reading.Kind.{Kind}
-use Rattle.decoder.specs.declared.reading.Kind.the-variants.{Unlisted, Data, HalfMove, Nop, Multiply, Access, LiteralLoad, Branch, RegisterBranch}
+use Rattle.decoder.specs.declared.reading.Kind.the-variants.{NoClass, Data, HalfMove, Nop, Multiply, Access, LiteralLoad, Branch, RegisterBranch}
 use Rattle.decoder.specs.declared.reading.Reading.{Reading}
 
 -- Bits 31..28 are the condition
@@ -171,11 +173,19 @@ isRegisterBranch w = eqb (bits w 27 4) 0x12_FFF1 || eqb (bits w 27 4) 0x12_FFF3
 abbrev pub registerBranchKind : ℕ → Kind
 registerBranchKind w = RegisterBranch (bits w 5 5) (rmOf w)
 
+-- ---- Why a word is in no class: condition 15, system call (bits 27..24 = 15), register-indexed access (bits 27..25 = 011 with
+-- bit 4 = 0), or unlisted, in that order where several hold
+unfoldable pub whyOf : ℕ → Why
+whyOf w =
+    cond (eqb (conditionOf w) 15) Condition15
+    (cond (eqb (bits w 27 24) 15) SystemCall
+    (cond (eqb (bits w 27 25) 3 && eqb (bits w 4 4) 0) RegisterIndexed Unlisted))
+
 -- ---- The reading. A condition of 15 is in no class, and so is a word that no class takes
 
 unfoldable pub kindOf : ℕ → Kind
 kindOf w =
-    cond (eqb (conditionOf w) 15) Unlisted
+    cond (eqb (conditionOf w) 15) (NoClass (whyOf w))
     (cond (isData w) (Data (dataFields w))
     (cond (isHalfMove w) (halfMoveKind w)
     (cond (isNop w) Nop
@@ -183,7 +193,7 @@ kindOf w =
     (cond (isLiteralLoad w) (literalLoadKind w)
     (cond (isAccess w) (Access (accessFields w))
     (cond (isBranch w) (branchKind w)
-    (cond (isRegisterBranch w) (registerBranchKind w) Unlisted))))))))
+    (cond (isRegisterBranch w) (registerBranchKind w) (NoClass (whyOf w))))))))))
 
 unfoldable pub readingOf : ℕ → Reading
 readingOf w = record { condition = conditionOf w; kind = kindOf w }

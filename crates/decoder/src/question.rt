@@ -4,10 +4,11 @@ use crate::reading::Kind;
 use crate::reading::Moved;
 use crate::reading::MultiplyFields;
 use crate::reading::Operand;
+use crate::reading::Why;
 use crate::word::is_compare;
 use crate::word::is_move;
 ghost use mathlib.Core.Path.{_≡_};
-ghost use Rattle.decoder.specs.Question.{operandNames, multiplyNames, movedNames, registerList, names as «names-r», baseOf, branchRegister, writesSp, keepsFlags, takesSp, isCall, isUnlisted, transferBytes};
+ghost use Rattle.decoder.specs.Question.{operandNames, multiplyNames, movedNames, registerList, names as «names-r», baseOf, branchRegister, writesSp, keepsFlags, takesSp, isCall, inNoClass, whyNumber, transferBytes};
 
 // Stands for no register.
 pub const NO_REGISTER: u32 = 16;
@@ -191,12 +192,24 @@ pub fn is_call(kind: Kind) -> bool
 }
 
 // The word is in no class.
-pub fn is_unlisted(kind: Kind) -> bool
-    ensures { λ b. ⌜ b ≡ isUnlisted kind ⌝ }
+pub fn in_no_class(kind: Kind) -> bool
+    ensures { λ b. ⌜ b ≡ inNoClass kind ⌝ }
 {
     match kind {
-        Kind::Unlisted => true,
+        Kind::NoClass(_) => true,
         _ => false,
+    }
+}
+
+// The number of a why, 1 to 4.
+pub fn why_number(why: Why) -> u32
+    ensures { λ n. ⌜ n ≡ whyNumber why ⌝ }
+{
+    match why {
+        Why::Condition15 => 1,
+        Why::SystemCall => 2,
+        Why::RegisterIndexed => 3,
+        Why::Unlisted => 4,
     }
 }
 

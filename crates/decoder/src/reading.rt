@@ -51,9 +51,21 @@ pub struct AccessFields {
     pub moved: Moved,
 }
 
+// Why a word is in no class: the first of these that holds.
+pub enum Why {
+    // The condition is 15.
+    Condition15,
+    // Bits 27..24 are 15.
+    SystemCall,
+    // Bits 27..25 are 011, and bit 4 is 0.
+    RegisterIndexed,
+    // None of the above.
+    Unlisted,
+}
+
 pub enum Kind {
     // The word is in no class.
-    Unlisted,
+    NoClass(Why),
     Data(DataFields),
     // top is 1 for movt and 0 for movw; number is all sixteen bits.
     HalfMove { top: u32, rd: u32, number: u32 },

@@ -6,12 +6,13 @@ use crate::reading::Kind;
 use crate::reading::MultiplyFields;
 use crate::reading::Operand;
 use crate::reading::Reading;
+use crate::reading::Why;
 ghost use mathlib.Core.Path.{_≡_};
 ghost use mathlib.Core.Bool.{false};
 ghost use Prim.Native.Nat.{_≤_};
 ghost use lib.Dec.{eqb};
 ghost use Rattle.decoder.specs.Bits.{bits};
-ghost use Rattle.decoder.specs.Word.{conditionOf, isCompare, isMove, isData, operandOf, isMultiply, isAnyAccess, kindOf, readingOf};
+ghost use Rattle.decoder.specs.Word.{conditionOf, isCompare, isMove, isData, operandOf, isMultiply, isAnyAccess, whyOf, kindOf, readingOf};
 
 // The nop, to the bit.
 const NOP: u32 = 0xE320_F000;
@@ -75,6 +76,22 @@ fn is_multiply(word: u32) -> bool
     (plain | (head == 1)) & (word / 16 % 16 == 9)
 }
 
+// Why a word is in no class, of one that is in none.
+fn why(word: u32) -> Why
+    ensures { λ r. ⌜ r ≡ whyOf word ⌝ }
+{
+    if word / 0x1000_0000 % 16 == 15 {
+        return Why::Condition15;
+    }
+    if word / 0x100_0000 % 16 == 15 {
+        return Why::SystemCall;
+    }
+    if (word / 0x200_0000 % 8 == 3) & (word / 16 % 2 == 0) {
+        return Why::RegisterIndexed;
+    }
+    Why::Unlisted
+}
+
 // Bits 27..25 are 0 or 1, and the word is no access.
 fn low_kind(word: u32) -> Kind
     requires { ⌜ (eqb (conditionOf word) 15 ≡ false) × (bits word 27 25 ≤ 1) × (isAnyAccess word ≡ false) ⌝ }
@@ -121,7 +138,7 @@ fn low_kind(word: u32) -> Kind
             rm,
         };
     }
-    Kind::Unlisted
+    Kind::NoClass(why(word))
 }
 
 // At most one class takes a word, so they are asked in another order than the paper's.
@@ -129,7 +146,7 @@ fn kind(word: u32) -> Kind
     ensures { λ r. ⌜ r ≡ kindOf word ⌝ }
 {
     if word / 0x1000_0000 % 16 == 15 {
-        return Kind::Unlisted;
+        return Kind::NoClass(Why::Condition15);
     }
     let group = word / 0x200_0000 % 8;
     if group == 5 {
@@ -144,7 +161,7 @@ fn kind(word: u32) -> Kind
     if group <= 1 {
         return low_kind(word);
     }
-    Kind::Unlisted
+    Kind::NoClass(why(word))
 }
 
 // The reading of a word that is no literal head and stands after none.

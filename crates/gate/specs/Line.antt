@@ -5,7 +5,7 @@ use mathlib.Core.Path.{_≡_}
 use mathlib.Core.List.{List, _++_}
 use lib.ListN.{length}
 use Rattle.rules.specs.declared.layout.Layout.{Layout}
-use Rattle.rules.specs.Outcome.{Verdict, accepted, refused, refusedAt}
+use Rattle.rules.specs.Outcome.{Verdict, accepted, refused, refusedAt, noClass}
 use Rattle.checker.specs.Check.{checkVerdict, ledgerOf, ledgerAfter}
 use Rattle.gate.specs.Text.{ascii, numeral, Puts}
 
@@ -18,6 +18,7 @@ unfoldable pub lineOf : Verdict → ℕ → List ℕ
 lineOf accepted bytes = ascii "accepted " ++ numeral bytes ++ ascii " bytes\n"
 lineOf (refused number) bytes = ascii "refused " ++ numeral number ++ ascii "\n"
 lineOf (refusedAt number at) bytes = ascii "refused " ++ numeral number ++ ascii " at " ++ numeral at ++ ascii "\n"
+lineOf (noClass why at) bytes = ascii "refused " ++ numeral 4 ++ ascii " at " ++ numeral at ++ ascii "\n"
 
 -- what `line` promises: the check's ledger, and the line of its verdict at the start of the buffer
 pub record Lined (code ledger out ledgerAfter′ outAfter : List ℕ) (end : ℕ) : Type 0 where

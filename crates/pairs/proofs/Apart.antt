@@ -13,7 +13,7 @@ use Rattle.decoder.specs.Question.{baseOf, branchRegister, writesSp, spWritten,
 use Rattle.pairs.specs.Pair.{canBeGuarded, maskGuards, testGuards, branchGuards, closes, isPair}
 use Rattle.decoder.specs.declared.reading.DataFields.{DataFields}
 use Rattle.decoder.specs.declared.reading.Kind.{Kind}
-use Rattle.decoder.specs.declared.reading.Kind.the-variants.{Unlisted, Data, HalfMove, Nop, Multiply, Access, LiteralLoad, Branch, RegisterBranch, Head, Literal}
+use Rattle.decoder.specs.declared.reading.Kind.the-variants.{NoClass, Data, HalfMove, Nop, Multiply, Access, LiteralLoad, Branch, RegisterBranch, Head, Literal}
 use Rattle.decoder.specs.declared.reading.Reading.{Reading}
 use Rattle.decoder.proofs.Bools.{both, each, either}
 use Rattle.decoder.proofs.Others.{from-data}
@@ -128,7 +128,7 @@ no-register e = omega arith
 on-sp : (k : Kind) → branchRegister k ≡ 13 → takesSp k ≡ true
 unfolding branchRegister takesSp
 on-sp (RegisterBranch call rm) e = eq-eqb rm 13 e
-on-sp Unlisted e = absurd (no-register e)
+on-sp (NoClass why) e = absurd (no-register e)
 on-sp (Data f) e = absurd (no-register e)
 on-sp (HalfMove top rd number) e = absurd (no-register e)
 on-sp Nop e = absurd (no-register e)

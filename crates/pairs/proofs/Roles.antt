@@ -7,7 +7,7 @@ use mathlib.Core.Path.{_≡_, refl}
 use mathlib.Core.Logic.{_↔_}
 use mathlib.Core.Bool.{Bool, true, false, cond}
 use mathlib.Core.List.{List, [], _∷_}
-use lib.ListN.{getD}
+use lib.ListN.{length, getD}
 use lib.Dec.{eqb, ltb, lit<}
 use Rattle.pairs.specs.Mask.{clearedBits, isDataMask, isBranchMask, testedBits, isTest}
 use Rattle.decoder.specs.Question.{baseOf, branchRegister, writesSp}
@@ -16,13 +16,13 @@ use Rattle.decoder.specs.Bundle.{headWord, headReading, literalReading, reading
 use Rattle.pairs.specs.Role.{inner, data′, head, roleAlone, roleAfter, rolesOf}
 use Rattle.decoder.specs.declared.reading.Reading.{Reading}
 use Rattle.decoder.specs.declared.reading.Kind.{Kind}
-use Rattle.decoder.specs.declared.reading.Kind.the-variants.{Unlisted, Data, HalfMove, Nop, Multiply, Access, LiteralLoad, Branch, RegisterBranch, Head, Literal}
+use Rattle.decoder.specs.declared.reading.Kind.the-variants.{NoClass, Data, HalfMove, Nop, Multiply, Access, LiteralLoad, Branch, RegisterBranch, Head, Literal}
 use Rattle.decoder.proofs.Bools.{by-test}
 
 -- a word's role by itself is not inner, and below 4
 alone-is : (k : Kind) → (roleAlone k ≡ inner → ⊥) × (roleAlone k < 4)
 unfolding roleAlone
-alone-is Unlisted = omega arith
+alone-is (NoClass why) = omega arith
 alone-is (Data f) = omega arith
 alone-is (HalfMove a b c) = omega arith
 alone-is Nop = omega arith
@@ -33,6 +33,16 @@ alone-is (Branch a b) = omega arith
 alone-is (RegisterBranch a b) = omega arith
 alone-is Head = omega arith
 alone-is (Literal a) = omega arith
+
+-- of four readings none is missing, so it does not matter what stands for a missing one
+pub none-missing : (rs : List Reading) (d : Reading) → length rs ≡ 4
+    → rolesOf rs ≡ roleAlone (getD rs 0 d .kind) ∷ roleAfter (getD rs 0 d) (getD rs 1 d) ∷ roleAfter (getD rs 1 d) (getD rs 2 d) ∷ roleAfter (getD rs 2 d) (getD rs 3 d) ∷ []
+unfolding rolesOf
+none-missing [] d e = absurd (omega arith)
+none-missing (w ∷ []) d e = absurd (omega arith)
+none-missing (w ∷ x ∷ []) d e = absurd (omega arith)
+none-missing (w ∷ x ∷ y ∷ []) d e = absurd (omega arith)
+none-missing (w ∷ x ∷ y ∷ z ∷ rs) d e = refl
 
 after-inner : (first second : Reading) → (roleAfter first second ≡ inner) ↔ (isPair first second ≡ true)
 unfolding roleAfter

@@ -5,7 +5,7 @@ use mathlib.Core.List.{List, [], _∷_}
 use lib.ListN.{getD}
 use Rattle.decoder.specs.Bundle.{blank}
 use Rattle.decoder.specs.declared.reading.Kind.{Kind}
-use Rattle.decoder.specs.declared.reading.Kind.the-variants.{Unlisted, Data, HalfMove, Nop, Multiply, Access, LiteralLoad, Branch, RegisterBranch, Head, Literal}
+use Rattle.decoder.specs.declared.reading.Kind.the-variants.{NoClass, Data, HalfMove, Nop, Multiply, Access, LiteralLoad, Branch, RegisterBranch, Head, Literal}
 use Rattle.decoder.specs.declared.reading.Reading.{Reading}
 use Rattle.pairs.specs.Pair.{isPair}
 
@@ -26,7 +26,7 @@ head = 3
 unfoldable pub roleAlone : Kind → ℕ
 roleAlone Head = head
 roleAlone (Literal low) = data′
-roleAlone Unlisted = plain
+roleAlone (NoClass why) = plain
 roleAlone (Data f) = plain
 roleAlone (HalfMove top rd number) = plain
 roleAlone Nop = plain

@@ -6,13 +6,14 @@ use native.Mathlib.Omega.{arith}
 use mathlib.Core.Path.{_≡_, _∙_, refl, sym, ap, subst}
 use mathlib.Core.Bool.{Bool, true, false, true≢false}
 use mathlib.Core.List.{List, [], _∷_}
-use lib.Dec.{ltb}
+use lib.Dec.{eqb, ltb}
 use lib.ListN.{length, getD, List·getD-eq-default}
-use borrow.Author.Tests.{lt-ltb, le-ltb, ltb-true, ltb-false}
+use borrow.Author.Tests.{eqb-true, eqb-false, eq-eqb, ne-eqb, lt-ltb, le-ltb, ltb-true, ltb-false}
 use Rattle.decoder.specs.declared.reading.Reading.{Reading}
 use Rattle.decoder.proofs.Bools.{by-test}
 use Rattle.rules.specs.declared.layout.Layout.{Layout}
-use Rattle.rules.specs.Rule.{rulesOf, lowestFrom, faultOf, breaks}
+use Rattle.decoder.specs.Question.{inNoClass}
+use Rattle.rules.specs.Rule.{rule4, rulesOf, lowestFrom, faultOf, breaks}
 
 -- ---- a list of tests, numbered from i
 
@@ -129,6 +130,9 @@ module _ (l : Layout) (n : ℕ) (before word next : Reading) (slot address role 
         to-11 = omega arith;
       })
 
+  pub most-11 : fault ≤ 11
+  most-11 = by-test (eqb fault 0) (λ t. let z = eqb-true fault 0 t in omega arith) (λ f. lowest (eqb-false fault 0 f) .to-11)
+
   -- a number that is broken, with none below it, is the fault
   pub lowest-is : (number : ℕ) → broken number ≡ true → ((m : ℕ) → m < number → broken m ≡ false) → fault ≡ number
   lowest-is number yes′ none =
@@ -139,3 +143,13 @@ module _ (l : Layout) (n : ℕ) (before word next : Reading) (slot address role 
       by-test (ltb number fault)
       (λ u. absurd (true≢false (sym yes′ ∙ low′ .none-below number (ltb-true _ _ u))))
       (λ u. le-antisymm (ltb-false number fault u) (ltb-false fault number t)))
+
+  rule-4 : inNoClass (word .kind) ≡ broken 4
+  unfolding breaks rulesOf rule4
+  rule-4 = refl
+
+  -- the word is in no class exactly where the fault is 4
+  pub no-class-4 : inNoClass (word .kind) ≡ eqb fault 4
+  no-class-4 =
+      by-test (broken 4) (λ t. rule-4 ∙ t ∙ sym (eq-eqb _ _ (lowest-is 4 t low)))
+      (λ f. rule-4 ∙ f ∙ sym (ne-eqb _ _ (λ e. true≢false (sym (lowest (λ z. omega arith) .breaks′) ∙ ap broken e ∙ f))))

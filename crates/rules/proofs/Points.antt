@@ -3,18 +3,19 @@ use Prim.Native.Nat.{ℕ}
 use mathlib.Core.Path.{_≡_}
 use mathlib.Core.Bool.{Bool, true, false}
 use mathlib.Core.List.{List, [], _∷_}
-use Rattle.decoder.specs.Word.{isCompare, isMove, isData, operandOf, dataFields, isHalfMove, isNop, isMultiply, multiplyFields, isAnyAccess, isLiteralLoad, isAccess, accessFields, isBranch, isRegisterBranch, kindOf, readingOf}
+use Rattle.decoder.specs.Word.{isCompare, isMove, isData, operandOf, dataFields, isHalfMove, isNop, isMultiply, multiplyFields, isAnyAccess, isLiteralLoad, isAccess, accessFields, isBranch, isRegisterBranch, whyOf, kindOf, readingOf}
 use Rattle.decoder.specs.Bundle.{literalReading, blank}
 use Rattle.decoder.specs.Immediate.{rotated, valueOf}
 use Rattle.decoder.specs.Place.{behind, signedStep, targetOf, literalOf}
-use Rattle.decoder.specs.Question.{operandNames, names, baseOf, branchRegister, writesSp, keepsFlags, takesSp, isCall, isUnlisted}
+use Rattle.decoder.specs.Question.{operandNames, names, baseOf, branchRegister, writesSp, keepsFlags, takesSp, isCall, inNoClass}
+use Rattle.decoder.specs.declared.reading.Why.the-variants.{SystemCall}
 use Rattle.decoder.specs.declared.place.Place.the-variants.{Below, At}
 use Rattle.pairs.specs.Mask.{immediateOf, clearedBits, isDataMask, isBranchMask, testedBits, isTest}
 use Rattle.pairs.specs.Pair.{canBeGuarded, maskGuards, testGuards, branchGuards, closes}
 use Rattle.rules.specs.declared.layout.Layout.{Layout}
-use Rattle.rules.specs.declared.outcome.Reason.the-variants.{PatchShape, Disagreement, Stranded}
+use Rattle.rules.specs.declared.outcome.Reason.the-variants.{NoClass, Register, PatchShape, Disagreement, Stranded}
 use Rattle.rules.specs.Layout.{sandboxEnd, codeLimit, layoutHolds, lengthHolds}
-use Rattle.rules.specs.Outcome.{reasonVerdict, numberOf, carriesAddress, placeOf}
+use Rattle.rules.specs.Outcome.{reasonVerdict, numberOf, carriesAddress, placeOf, whyIn}
 use Rattle.rules.specs.Rule.{rule4, rule5, rule6, wantsGuard, rule7, rule8, rule9, literalHolds, rule10, wordAtAddress, landingOf, inTrampolines, landable, rule11, rulesOf, lowestFrom, faultOf}
 
 abbrev N : ℕ
@@ -50,6 +51,9 @@ pub record Points : Type 0 where
   -- outcome::address
   pub stranded-address : placeOf (reasonVerdict (Stranded 131092)) ≡ 131092
   pub patch-shape-address : placeOf (reasonVerdict PatchShape) ≡ 0
+  -- outcome::why
+  pub why-of-a-system-call : whyIn (reasonVerdict (NoClass SystemCall 131072)) ≡ 2
+  pub no-why-beside-5 : whyIn (reasonVerdict (Register 131072)) ≡ 0
   -- rule::rule4
   pub svc-refused : rule4 (kindOf 0xEF00_0000) ≡ true
   pub data-never-refused : rule4 (literalReading 0xEF00_0000 .kind) ≡ false
@@ -96,5 +100,5 @@ pub record Points : Type 0 where
   pub call-9 : faultAlone 0xEBFF_FFFE 2 ≡ 9
 
 pub points : Points
-unfolding kindOf isData isCompare isMove isHalfMove isNop isMultiply isAnyAccess isLiteralLoad isAccess isBranch isRegisterBranch dataFields operandOf multiplyFields accessFields readingOf literalReading rotated valueOf behind signedStep targetOf literalOf operandNames names baseOf branchRegister writesSp keepsFlags takesSp isCall isUnlisted immediateOf clearedBits isDataMask isBranchMask testedBits isTest canBeGuarded maskGuards testGuards branchGuards closes sandboxEnd codeLimit layoutHolds lengthHolds rule4 rule5 rule6 wantsGuard rule7 rule8 rule9 literalHolds rule10 wordAtAddress landingOf inTrampolines landable rule11 rulesOf lowestFrom faultOf
+unfolding kindOf isData isCompare isMove isHalfMove isNop isMultiply isAnyAccess isLiteralLoad isAccess isBranch isRegisterBranch whyOf dataFields operandOf multiplyFields accessFields readingOf literalReading rotated valueOf behind signedStep targetOf literalOf operandNames names baseOf branchRegister writesSp keepsFlags takesSp isCall inNoClass immediateOf clearedBits isDataMask isBranchMask testedBits isTest canBeGuarded maskGuards testGuards branchGuards closes sandboxEnd codeLimit layoutHolds lengthHolds rule4 rule5 rule6 wantsGuard rule7 rule8 rule9 literalHolds rule10 wordAtAddress landingOf inTrampolines landable rule11 rulesOf lowestFrom faultOf
 points = search

@@ -12,6 +12,8 @@ use Rattle.rules.proofs.outcome.carries_address.Kinds as carries-addres
 use Rattle.rules.proofs.outcome.carries_address.Reads as carries-address
 use Rattle.rules.proofs.outcome.address.Kinds as address-kinds
 use Rattle.rules.proofs.outcome.address.Reads as address
+use Rattle.rules.proofs.outcome.why.Kinds as why-kinds
+use Rattle.rules.proofs.outcome.why.Reads as why
 use Rattle.rules.proofs.rule.rule4.Kinds as rule4-kinds
 use Rattle.rules.proofs.rule.rule4.Reads as rule4
 use Rattle.rules.proofs.rule.rule5.Kinds as rule5-kinds
@@ -51,6 +53,9 @@ carries-address-unique a u v x y p q = p ∙ sym q
 
 pub address-unique : Unique address-kinds.ps address-kinds.r address.Post
 address-unique a u v x y p q = p ∙ sym q
+
+pub why-unique : Unique why-kinds.ps why-kinds.r why.Post
+why-unique a u v x y p q = p ∙ sym q
 
 pub rule4-unique : Unique rule4-kinds.ps rule4-kinds.r rule4.Post
 rule4-unique a u v x y p q = p ∙ sym q

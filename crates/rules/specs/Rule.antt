@@ -12,14 +12,14 @@ use Rattle.decoder.specs.declared.place.Place.{Place}
 use Rattle.decoder.specs.declared.place.Place.the-variants.{Absent, Below, At}
 use Rattle.pairs.specs.Mask.{isDataMask}
 use Rattle.decoder.specs.Place.{targetOf, literalOf}
-use Rattle.decoder.specs.Question.{names, baseOf, branchRegister, writesSp, takesSp, isCall, isUnlisted}
+use Rattle.decoder.specs.Question.{names, baseOf, branchRegister, writesSp, takesSp, isCall, inNoClass}
 use Rattle.pairs.specs.Pair.{maskGuards, testGuards, branchGuards, closes}
 use Rattle.pairs.specs.Role.{plain, head}
 use Rattle.rules.specs.declared.layout.Layout.{Layout}
 
 -- 4: the word is in no class
 unfoldable pub rule4 : Kind → Bool
-rule4 k = isUnlisted k
+rule4 k = inNoClass k
 
 -- 5: a register field is 9, or is 15 other than a literal load's base
 unfoldable pub rule5 : Kind → Bool

@@ -1,6 +1,8 @@
 // What a call answers: accepted, or refused for a reason, with its address where it has one.
+use decoder::question::why_number;
+use decoder::reading::Why;
 ghost use mathlib.Core.Path.{_≡_};
-ghost use Rattle.rules.specs.Outcome.{reasonVerdict, numberOf, carriesAddress, placeOf};
+ghost use Rattle.rules.specs.Outcome.{reasonVerdict, numberOf, carriesAddress, placeOf, whyIn};
 
 pub enum Reason {
     // 1: the layout breaks a rule.
@@ -9,8 +11,8 @@ pub enum Reason {
     CodeLength,
     // 3: the ledger's length isn't the number of words.
     LedgerLength,
-    // 4: the word is in no class.
-    NoClass { at: u32 },
+    // 4: the word is in no class, and why.
+    NoClass { why: Why, at: u32 },
     // 5: a register field is 9, or 15.
     Register { at: u32 },
     // 6: r13 is written or named outside the rule.
@@ -46,7 +48,7 @@ pub fn number(reason: Reason) -> u32
         Reason::Layout => 1,
         Reason::CodeLength => 2,
         Reason::LedgerLength => 3,
-        Reason::NoClass { at: _ } => 4,
+        Reason::NoClass { why: _, at: _ } => 4,
         Reason::Register { at: _ } => 5,
         Reason::StackPointer { at: _ } => 6,
         Reason::Access { at: _ } => 7,
@@ -76,7 +78,7 @@ pub fn address(reason: Reason) -> u32
         Reason::Layout => 0,
         Reason::CodeLength => 0,
         Reason::LedgerLength => 0,
-        Reason::NoClass { at } => at,
+        Reason::NoClass { why: _, at } => at,
         Reason::Register { at } => at,
         Reason::StackPointer { at } => at,
         Reason::Access { at } => at,
@@ -87,5 +89,15 @@ pub fn address(reason: Reason) -> u32
         Reason::PatchShape => 0,
         Reason::Disagreement => 0,
         Reason::Stranded { at } => at,
+    }
+}
+
+// The number of the why beside 4, or 0 where there is none.
+pub fn why(reason: Reason) -> u32
+    ensures { λ r. ⌜ r ≡ whyIn (reasonVerdict reason) ⌝ }
+{
+    match reason {
+        Reason::NoClass { why, at: _ } => why_number(why),
+        _ => 0,
     }
 }

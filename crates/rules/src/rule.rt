@@ -10,8 +10,8 @@ use decoder::question::SP;
 use decoder::question::THREAD;
 use decoder::question::base;
 use decoder::question::branch_register;
+use decoder::question::in_no_class;
 use decoder::question::is_call;
-use decoder::question::is_unlisted;
 use decoder::question::names;
 use decoder::question::takes_sp;
 use decoder::question::writes_sp;
@@ -31,7 +31,7 @@ ghost use Rattle.rules.specs.Rule.{rule4 as «r4», rule5 as «r5», rul
 pub fn rule4(kind: Kind) -> bool
     ensures { λ b. ⌜ b ≡ «r4» kind ⌝ }
 {
-    is_unlisted(kind)
+    in_no_class(kind)
 }
 
 // 5: a register field is 9, or is 15 other than a literal load's base.

@@ -7,7 +7,7 @@
 
 use second::make::*;
 use second::regions::BENCH_LAYOUT as LAYOUT;
-use second::{awl, check, Outcome};
+use second::{awl, check, Outcome, Why};
 use std::ops::Range;
 use std::process::ExitCode;
 use std::sync::atomic::{AtomicU64, Ordering};
@@ -41,6 +41,7 @@ fn main() -> ExitCode {
         let workers: Vec<_> = (0..threads).map(|_| scope.spawn(work)).collect();
         workers.into_iter().for_each(|worker| total.add(&worker.join().expect("a worker ends")));
     });
+    println!("in no class by why, 1 to 4: {:?}", total.whys);
     println!(
         "{} regions, {} accepted, {} differences",
         total.regions, total.accepted, total.differences
@@ -79,6 +80,8 @@ fn take(next: &AtomicU64, part: &Range<u64>) -> Option<Range<u64>> {
 struct Count {
     regions: u64,
     accepted: u64,
+    /// Refused with 4, by the why.
+    whys: [u64; Why::ALL.len()],
     differences: u64,
 }
 
@@ -86,6 +89,7 @@ impl Count {
     fn add(&mut self, other: &Count) {
         self.regions += other.regions;
         self.accepted += other.accepted;
+        self.whys.iter_mut().zip(other.whys).for_each(|(sum, count)| *sum += count);
         self.differences += other.differences;
     }
 
@@ -111,6 +115,7 @@ impl Count {
         let same = own == theirs && own_ledger == ledger && kept && lent == code;
         self.regions += 1;
         self.accepted += u64::from(accepted);
+        own.why().iter().for_each(|&why| self.whys[why as usize - 1] += 1);
         self.differences += u64::from(!same);
         if !same && self.differences <= 5 {
             println!("{words:08x?}: own {own:?} {own_ledger:?}, library {theirs:?} {ledger:?}");

@@ -11,7 +11,8 @@
 //! - the offset and the lengths of ledger, bytes and new bytes, 64 bits each;
 //! - the ledger, the bytes (the code or the old bundles) and the new bytes, as
 //!   many as the low 32 bits of their length say;
-//! - the answer, 64 bits; and the ledger and the bytes afterwards.
+//! - the answer, 64 bits: the number, the why from bit 8 and the address from bit
+//!   32 up; and the ledger and the bytes afterwards.
 //!
 //! At the end stands a 0 of 32 bits and the number of calls, of 64.
 
@@ -19,7 +20,7 @@ use second::families::{self, argument, patches::Call, Case};
 use second::make::NOP;
 use second::regions::BENCH_LAYOUT;
 use second::rows::{self, Row};
-use second::{check, Layout, Outcome};
+use second::{check, Layout, Outcome, Why};
 use std::collections::BTreeSet;
 use std::io::{self, BufWriter, Write};
 use std::iter;
@@ -36,16 +37,19 @@ fn main() -> io::Result<()> {
     let random = random_checks(seed, regions).chain(random_patches(seed, patches));
 
     let out = &mut BufWriter::new(io::stdout().lock());
-    let (mut calls, mut numbers) = (0u64, BTreeSet::new());
+    let (mut calls, mut numbers, mut whys) = (0u64, BTreeSet::new(), BTreeSet::new());
     for vector in bench.chain(wide()).chain(random) {
         vector.write(out)?;
         calls += 1;
         numbers.insert(vector.outcome.number());
+        whys.extend(vector.outcome.why().map(|why| (vector.kind, why)));
     }
     assert!(
         numbers.into_iter().eq(0..=14),
         "acceptance and every refusal must be among the answers"
     );
+    let every_why = [CHECK, PATCH].into_iter().flat_map(|kind| Why::ALL.map(|why| (kind, why)));
+    assert!(whys.into_iter().eq(every_why), "checks and patches must give every why");
     out.write_all(&END.to_le_bytes())?;
     out.write_all(&calls.to_le_bytes())?;
     out.flush()

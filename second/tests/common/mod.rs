@@ -3,7 +3,7 @@
 
 use second::families::Case;
 use second::make::{bytes, padded, words};
-use second::{check, regions, Layout, Outcome};
+use second::{check, regions, Layout, Outcome, Why};
 
 pub use second::regions::BENCH_LAYOUT as LAYOUT;
 
@@ -11,11 +11,16 @@ pub use second::regions::BENCH_LAYOUT as LAYOUT;
 pub const STALE: u32 = 0xA5A5_A5A5;
 
 pub fn refused(number: u32) -> Outcome {
-    Outcome::Refused { number, address: None }
+    Outcome::Refused { number, why: None, address: None }
 }
 
 pub fn refused_at(number: u32, address: u32) -> Outcome {
-    Outcome::Refused { number, address: Some(address) }
+    Outcome::Refused { number, why: None, address: Some(address) }
+}
+
+/// Number 4 at an address, and why.
+pub fn no_class(why: Why, address: u32) -> Outcome {
+    Outcome::Refused { number: 4, why: Some(why), address: Some(address) }
 }
 
 pub fn answer(layout: &Layout, words: &[u32]) -> Result<Vec<u32>, Outcome> {
@@ -48,6 +53,10 @@ pub fn accepts(words: &[u32], ledger: &[u32]) {
 
 pub fn refuses(words: &[u32], number: u32, address: u32) {
     assert_eq!(answer(&LAYOUT, words), Err(refused_at(number, address)), "{words:08X?}");
+}
+
+pub fn in_no_class(words: &[u32], why: Why, address: u32) {
+    assert_eq!(answer(&LAYOUT, words), Err(no_class(why, address)), "{words:08X?}");
 }
 
 /// The roles of the words, as the ledger has them, whatever rule they break.

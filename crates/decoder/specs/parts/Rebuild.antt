@@ -5,7 +5,7 @@ use Rattle.decoder.specs.declared.reading.Operand.the-variants.{Immediat
 use Rattle.decoder.specs.declared.reading.Moved.{Moved}
 use Rattle.decoder.specs.declared.reading.Moved.the-variants.{Word, Halfword, Registers}
 use Rattle.decoder.specs.declared.reading.Kind.{Kind}
-use Rattle.decoder.specs.declared.reading.Kind.the-variants.{Unlisted, Data, HalfMove, Nop, Multiply, Access, LiteralLoad, Branch, RegisterBranch, Head, Literal}
+use Rattle.decoder.specs.declared.reading.Kind.the-variants.{NoClass, Data, HalfMove, Nop, Multiply, Access, LiteralLoad, Branch, RegisterBranch, Head, Literal}
 use Rattle.decoder.specs.declared.reading.Reading.{Reading}
 
 -- bits 27..25 of a data word
@@ -60,7 +60,7 @@ kindBits (Branch call offset) = 5 * 2 ^ 25 + (call * 2 ^ 24 + offset)
 kindBits (RegisterBranch call rm) = (0x12_FFF1 + 2 * call) * 2 ^ 4 + rm
 kindBits Head = 0x125_BE70
 kindBits (Literal low) = low
-kindBits Unlisted = 0
+kindBits (NoClass why) = 0
 
 unfoldable pub wordOf : Reading → ℕ
 unfolding kindBits

@@ -7,7 +7,7 @@ use mathlib.Core.Path.{_≡_, _∙_, sym}
 use mathlib.Core.Bool.{true}
 use lib.ListN.{length}
 use Rattle.rules.specs.Layout.{layoutHolds, lengthHolds}
-use Rattle.checker.proofs.Checks.{checked-1, checked-2, checked-3, Kept, stands, found-address, found-range, checked-word, checked-all}
+use Rattle.checker.proofs.Checks.{checked-1, checked-2, checked-3, Kept, stands, found-address, found-reads, found-asks, checked-word, checked-all}
 use Rattle.checker.proofs.check.check.Statement.{statement}
 use Rattle.checker.proofs.check.check.Tie as tie
 
@@ -57,12 +57,15 @@ cast-at c = let fits = address-fits (c .before) in omega arith
 add-at : tie.Need-add-at
 add-at c = let fits = address-fits (c .before .before) in omega arith
 
+reading-at-requires : tie.Need-reading-at-requires
+reading-at-requires c κs = found-reads (kept (c .before .before .before .before .before)) (c .before .before .before .first-fault .ensures) (c .before .before .if4 .taken)
+
 reason-requires : tie.Need-reason-requires
-reason-requires c κs = found-range (kept (c .before .before .before .before .before)) (c .before .before .before .first-fault .ensures) (c .before .before .if4 .taken)
+reason-requires c κs = found-asks (kept (c .before .before .before .before .before .before)) (c .before .before .before .before .first-fault .ensures) (c .before .before .before .if4 .taken) _ (c .reading-at .ensures)
 
 returns-4 : tie.Need-returns-4
 returns-4 c =
-    checked-word (kept (c .before .before .before .before .before .before)) (c .before .before .before .before .first-fault .ensures) (c .before .before .before .if4 .taken) (c .reason .result) (c .reason .ensures)
+    checked-word (kept (c .before .before .before .before .before .before .before)) (c .before .before .before .before .before .first-fault .ensures) (c .before .before .before .before .if4 .taken) _ (c .before .reading-at .ensures) (c .reason .result) (c .reason .ensures)
 
 write-ledger-requires : tie.Need-write-ledger-requires
 write-ledger-requires c κs = let k = kept (c .before .before .before .before) in (stands k, k .words)
@@ -86,6 +89,7 @@ check-spec =
     mul-at
     cast-at
     add-at
+    reading-at-requires
     reason-requires
     (λ c. search needs)
     returns-4

@@ -1,29 +1,34 @@
--- `check::reason` meets its contract: each arm is told its number, and the last is 11.
-use mathlib.Core.Path.{_≡_}
-use Prim.Native.Nat.{ℕ, _+_, _≤_}
-use native.Mathlib.Nat.{le-antisymm}
+-- `check::reason` meets its contract: the first arm is told the why, and the other that the word is in a class.
 use native.Mathlib.Omega.{arith}
+use mathlib.Core.Path.{_≡_, _∙_, sym, ap}
+use mathlib.Core.Bool.{true, false}
+use borrow.Author.Needs.{needs}
+use borrow.Author.Tests.{eqb-false}
+use Rattle.decoder.specs.declared.reading.Kind.{Kind}
+use Rattle.decoder.specs.Question.{inNoClass}
+use Rattle.decoder.proofs.Others.{other-no-class}
+use Rattle.rules.specs.Outcome.{refusedAt, noClass, refusalOf}
 use Rattle.checker.proofs.check.reason.Statement.{statement}
 use Rattle.checker.proofs.check.reason.Tie as tie
 
-up : {m n : ℕ} → m ≤ n → (n ≡ m → ⊥) → m + 1 ≤ n
-up h d = omega arith
+returns : tie.Need-returns
+returns c =
+    let a = c .before .before .before .args in
+    sym (ap (λ (k : Kind). refusalOf k (a .number) (a .at)) (c .before .kind .given .1))
 
-last : (c : tie.At-match-rest) → c .before .args .number ≡ 11
-last c =
-    let left = c .match .rest in
-    le-antisymm (c .before .pre .1)
-    (up (up (up (up (up (up (up (c .before .pre .0) (left .0 .0 .0 .0 .0 .0 .1)) (left .0 .0 .0 .0 .0 .1)) (left .0 .0 .0 .0 .1)) (left .0 .0 .0 .1)) (left .0 .0 .1)) (left .0 .1)) (left .1))
+listed-reason-requires : tie.Need-listed-reason-requires
+unfolding inNoClass
+listed-reason-requires c κs =
+    let a = c .before .args in
+    let other : a .number ≡ 4 → ⊥ = eqb-false _ _ (sym (c .before .pre .0) ∙ sym (other-no-class (λ why. true) false (a .word .kind) (c .match .keys2))) in
+    let least = c .before .pre .1 in
+    let most = c .before .pre .2 in
+    (omega arith, omega arith)
+
+returns-2 : tie.Need-returns-2
+returns-2 c =
+    let a = c .before .before .args in
+    c .listed-reason .ensures ∙ other-no-class (λ why. noClass why (a .at)) (refusedAt (a .number) (a .at)) (a .word .kind) (c .before .match .keys2)
 
 pub reason-spec : {M : Type 1} → statement M
-reason-spec =
-    tie.close
-    (tie.spec
-    (λ c. rw (c .match .keys1))
-    (λ c. rw (c .match .keys2))
-    (λ c. rw (c .match .keys3))
-    (λ c. rw (c .match .keys4))
-    (λ c. rw (c .match .keys5))
-    (λ c. rw (c .match .keys6))
-    (λ c. rw (c .match .keys7))
-    (λ c. rw (last c)))
+reason-spec = tie.close (tie.spec (λ c. search needs) listed-reason-requires returns returns-2)

@@ -8,12 +8,12 @@ use mathlib.Core.Bool.{Bool, true}
 use mathlib.Core.List.{List}
 use lib.ListN.{length}
 use borrow.Author.Tests.{not-true, not-false}
-use Rattle.rules.specs.Outcome.{refusedAt}
+use Rattle.rules.specs.Outcome.{refusalOf}
 use Rattle.checker.specs.Patch.{countsHold, rolesAgree}
 use Rattle.checker.specs.parts.Patch.{Exchanges, PatchedWords}
 use Rattle.checker.proofs.Exchange.{counts-within}
 use Rattle.checker.proofs.Undo.{Agreed, within-after, undone}
-use Rattle.checker.proofs.Patches.{disagreed, counts-disagree, roles-disagree, exchange-says, back-stands, addressed, fault-inside, fault-range, faulty, stranded, patched, ledger-moved}
+use Rattle.checker.proofs.Patches.{disagreed, counts-disagree, roles-disagree, exchange-says, back-stands, addressed, fault-inside, fault-reads, fault-asks, faulty, stranded, patched, ledger-moved}
 use Rattle.checker.proofs.patch.patch_words.Statement.{statement}
 use Rattle.checker.proofs.patch.patch_words.Tie as tie
 
@@ -85,15 +85,19 @@ add-address c = let r = fault-addressed c in omega arith
 address-requires : tie.Need-address-requires
 address-requires c κs = fault-addressed c
 
+reading-at-requires : tie.Need-reading-at-requires
+reading-at-requires c κs = let reads = fault-reads (agreed (c .before .before .before .before .before .before .before .before .before)) (c .before .before .before .before .before .before .before .before .before .before .before .before .before .before .before .before .first-fault .ensures) (c .before .before .before .before .before .before .before .before .if4 .taken) in (reads .0, omega (arith, reads .1))
+
 reason-requires : tie.Need-reason-requires
-reason-requires c κs = fault-range (agreed (c .before .before .before .before .before .before .before .before .before)) (c .before .before .before .before .before .before .before .before .before .before .before .before .before .before .before .before .first-fault .ensures) (c .before .before .before .before .before .before .before .before .if4 .taken)
+reason-requires c κs = fault-asks (agreed (c .before .before .before .before .before .before .before .before .before .before)) (c .before .before .before .before .before .before .before .before .before .before .before .before .before .before .before .before .before .first-fault .ensures) (c .before .before .before .before .before .before .before .before .before .if4 .taken) _ (c .reading-at .ensures)
 
 returns-4 : tie.Need-returns-4
 returns-4 c =
-    let g = agreed (c .before .before .before .before .before .before .before .before .before .before) in
-    let f = c .before .before .before .before .before .before .before .before .before .before .before .before .before .before .before .before .before .first-fault in
-    let back = c .before .before .before .before .before .before .exchange2 in
-    faulty g (f .ensures) (c .before .before .before .before .before .before .before .before .before .if4 .taken) (c .reason .result) _ (c .reason .ensures ∙ ap (refusedAt (f .result .number)) (c .before .address .ensures))
+    let g = agreed (c .before .before .before .before .before .before .before .before .before .before .before) in
+    let f = c .before .before .before .before .before .before .before .before .before .before .before .before .before .before .before .before .before .before .first-fault in
+    let back = c .before .before .before .before .before .before .before .exchange2 in
+    let word = c .before .reading-at in
+    faulty g (f .ensures) (c .before .before .before .before .before .before .before .before .before .before .if4 .taken) (word .result) (word .ensures) (c .reason .result) _ (c .reason .ensures ∙ ap (refusalOf (word .result .kind) (f .result .number)) (c .before .before .address .ensures))
     (undone g _ _ _ (back .kept .1 .0) (back .ensures))
 
 exchange-requires-3 : tie.Need-exchange-requires-3
@@ -136,6 +140,7 @@ patch-words-spec =
     exchange-requires-2
     add-address
     address-requires
+    reading-at-requires
     reason-requires
     (λ c. search needs)
     (λ c. search needs)

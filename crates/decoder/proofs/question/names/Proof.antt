@@ -37,7 +37,7 @@ returns-6 c = sym (ap (names (c .before .before .before .args .r)) (c .before .k
 
 returns-7 : tie.Need-returns-7
 unfolding names
-returns-7 c = others (0 ∷ 3 ∷ 7 ∷ 9 ∷ 10 ∷ []) (λ k. false ≡ names (c .before .args .r) k) refl tt tt refl tt tt tt (λ _ _. refl) tt refl (λ _. refl) (c .before .args .kind) (c .match .keys7)
+returns-7 c = others (0 ∷ 3 ∷ 7 ∷ 9 ∷ 10 ∷ []) (λ k. false ≡ names (c .before .args .r) k) (λ _. refl) tt tt refl tt tt tt (λ _ _. refl) tt refl (λ _. refl) (c .before .args .kind) (c .match .keys7)
 
 pub names-spec : {M : Type 1} → statement M
 names-spec =

@@ -33,7 +33,7 @@ returns-5 c = sym (ap takesSp (c .before .kind5 .given .1))
 
 returns-6 : tie.Need-returns-6
 unfolding takesSp
-returns-6 c = others (0 ∷ 1 ∷ 3 ∷ 7 ∷ 9 ∷ 10 ∷ []) (λ k. false ≡ takesSp k) refl (λ _. refl) tt refl tt tt tt (λ _ _. refl) tt refl (λ _. refl) (c .before .args .kind) (c .match .keys6)
+returns-6 c = others (0 ∷ 1 ∷ 3 ∷ 7 ∷ 9 ∷ 10 ∷ []) (λ k. false ≡ takesSp k) (λ _. refl) (λ _. refl) tt refl tt tt tt (λ _ _. refl) tt refl (λ _. refl) (c .before .args .kind) (c .match .keys6)
 
 pub takes-sp-spec : {M : Type 1} → statement M
 takes-sp-spec =

@@ -1,9 +1,10 @@
 -- `word::kind` meets its contract: bits 27..25 say which classes are left to ask.
 use borrow.Author.Needs.{needs}
 use borrow.Author.Tests.{eq-eqb, ne-eqb}
-use mathlib.Core.Path.{_∙_, sym}
+use mathlib.Core.Path.{_∙_, sym, ap}
 use Rattle.decoder.specs.Bits.{bits}
 use Rattle.decoder.specs.Word.{isBranch}
+use Rattle.decoder.specs.declared.reading.Kind.the-variants.{NoClass}
 use Rattle.decoder.proofs.Classes.{of-branch, condition-15}
 use Rattle.decoder.proofs.Taken.{kind-taken, kind-untaken, untaken-above}
 use Rattle.decoder.proofs.word.kind.Statement.{statement}
@@ -26,11 +27,13 @@ low-kind-requires c κs =
 
 returns-5 : tie.Need-returns-5
 returns-5 c =
-    let asked = c .before .before in
+    let above = c .before in
+    let asked = above .before .before in
     let w = asked .before .before .before .args .word in
-    sym
+    ap NoClass (c .why .ensures)
+    ∙ sym
     (kind-untaken w (ne-eqb _ _ (asked .before .before .if1 .left))
-    (untaken-above w (c .if4 .left) (ne-eqb (bits w 27 25) 5 (asked .before .if2 .left)) (sym (asked .is-any-access .ensures) ∙ c .before .if3 .left)))
+    (untaken-above w (above .if4 .left) (ne-eqb (bits w 27 25) 5 (asked .before .if2 .left)) (sym (asked .is-any-access .ensures) ∙ above .before .if3 .left)))
 
 pub kind-spec : {M : Type 1} → statement M
 kind-spec =
@@ -43,4 +46,5 @@ kind-spec =
     (λ c. search needs)
     low-kind-requires
     (λ c. search needs)
+    (λ c κs. search needs)
     returns-5)

@@ -6,7 +6,7 @@ use mathlib.Core.Path.{_∙_, sym, ap}
 use Rattle.decoder.specs.Bits.{bits}
 use Rattle.decoder.specs.Word.{operationOf, sOf, rnOf, rdOf, dataFields, isHalfMove, isNop, multiplyFields, isBranch, isRegisterBranch}
 use Rattle.decoder.specs.declared.reading.Operand.{Operand}
-use Rattle.decoder.specs.declared.reading.Kind.the-variants.{Data}
+use Rattle.decoder.specs.declared.reading.Kind.the-variants.{NoClass, Data}
 use Rattle.decoder.proofs.Classes.{of-data, of-half-move, of-nop, of-multiply, of-register-branch}
 use Rattle.decoder.proofs.Taken.{kind-taken, kind-untaken}
 use Rattle.decoder.proofs.word.low_kind.Statement.{statement}
@@ -45,14 +45,16 @@ returns-5 c =
 returns-6 : tie.Need-returns-6
 unfolding isHalfMove isNop isBranch isRegisterBranch
 returns-6 c =
-    let half = c .before in
+    let branch′ = c .before in
+    let half = branch′ .before in
     let multiply′ = half .before in
     let no-data = multiply′ .before .before in
     let nop′ = no-data .before .before in
     let start = nop′ .before in
     let w = start .args .word in
     let low = start .pre .1 in
-    sym
+    ap NoClass (c .why .ensures)
+    ∙ sym
     (kind-untaken w (start .pre .0)
     record {
       data′ = sym (no-data .before .is-data .ensures) ∙ no-data .if2 .left;
@@ -61,7 +63,7 @@ returns-6 c =
       multiply = sym (multiply′ .before .is-multiply .ensures) ∙ multiply′ .if3 .left;
       any-access = start .pre .2;
       branch = ne-eqb (bits w 27 25) 5 (λ e. omega arith);
-      register-branch = c .if5 .left;
+      register-branch = branch′ .if5 .left;
     })
 
 pub low-kind-spec : {M : Type 1} → statement M
@@ -78,4 +80,5 @@ low-kind-spec =
     (λ c. search needs)
     returns-4
     returns-5
+    (λ c κs. search needs)
     returns-6)

@@ -6,7 +6,7 @@ use Rattle.rules.proofs.rule.rule4.Tie as tie
 
 returns : tie.Need-returns
 unfolding rule4
-returns c = c .is-unlisted .ensures
+returns c = c .in-no-class .ensures
 
 pub rule4-spec : {M : Type 1} → statement M
 rule4-spec = tie.close (tie.spec (λ c κs. search needs) returns)
