@@ -31,7 +31,7 @@ extern "C" {
 enum {
     AWL_WHY_CONDITION_15 = 1,     /* its condition, bits 31..28, is 15 */
     AWL_WHY_SYSTEM_CALL = 2,      /* its bits 27..24 are 15 */
-    AWL_WHY_REGISTER_INDEXED = 3, /* an access by two registers: bits 27..25 are 011, and bit 4 is 0 */
+    AWL_WHY_REGISTER_INDEXED = 3, /* indexed by a register: bits 27..25 are 011, and bit 4 is 0 */
     AWL_WHY_UNLISTED = 4          /* none of the above */
 };
 

@@ -1,7 +1,7 @@
 -- Demands 1 and 2, over the definitions alone. Under a layout and lengths that the paper allows, a region is accepted exactly when every
 -- word in it meets the rules; otherwise the answer is the lowest address that breaks one, with the lowest number there; and the ledger
 -- of an accepted region holds, for each word, its role and the number of direct branches that land on it.
-use Prim.Native.Nat.{ℕ, _+_, _*_, _/_, _≤_, _<_}
+use Prim.Native.Nat.{ℕ, _+_, _*_, _≤_, _<_}
 use native.Mathlib.Nat.{zero-add}
 use native.Mathlib.Omega.{arith}
 use mathlib.Core.Path.{_≡_, _∙_, refl, sym, ap, subst}
@@ -24,7 +24,7 @@ use Rattle.checker.specs.Lists.{firstFrom}
 use Rattle.checker.specs.Region.{readingAt, roleAt}
 use Rattle.checker.specs.Standing.{landings, faultAt, breaksAt}
 use Rattle.checker.specs.Check.{wordsOf, codeFault, wordBreaks, wordsVerdict, checkVerdict, entryOf, ledgerOf, ledgerAfter, Checked}
-use Rattle.checker.specs.Patch.{movedLedger, patchVerdict, Patched}
+use Rattle.checker.specs.Patch.{patchVerdict, Patched}
 use Rattle.checker.proofs.First.{first-to, first-hit, first-miss, first-none, found-at}
 use Rattle.checker.proofs.Lists.{list-length, list-at}
 

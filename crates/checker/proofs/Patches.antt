@@ -22,7 +22,7 @@ use Rattle.rules.proofs.Reasons.{reason-not}
 use Rattle.checker.specs.Lists.{firstFrom}
 use Rattle.checker.specs.parts.First.{First}
 use Rattle.checker.specs.Region.{readingAt, roleAt}
-use Rattle.checker.specs.Standing.{landings, faultAt, roleFrom, standingFault}
+use Rattle.checker.specs.Standing.{landings, roleFrom, standingFault}
 use Rattle.checker.specs.parts.Stands.{Stands, BothStand}
 use Rattle.checker.specs.parts.Ledger.{RolesWritten}
 use Rattle.checker.specs.Check.{wordsOf, ledgerAfter}

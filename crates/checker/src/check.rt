@@ -20,8 +20,8 @@ ghost use Rattle.rules.specs.Outcome.{refusedAt, reasonVerdict, refusalOf};
 ghost use Rattle.checker.specs.parts.Stands.{Stands};
 ghost use Rattle.checker.specs.Check.{ledgerOf, Checked};
 
-// The reason of a rule from 5 to 11, with its address.
-fn listed_reason(number: u32, at: u32) -> Reason
+// The reason of a rule from 5 to 11, of a word in a class, with its address.
+fn class_reason(number: u32, at: u32) -> Reason
     requires { ⌜ (5 ≤ number) × (number ≤ 11) ⌝ }
     ensures { λ r. ⌜ reasonVerdict r ≡ refusedAt number at ⌝ }
 {
@@ -44,7 +44,7 @@ pub(crate) fn reason(word: Reading, number: u32, at: u32) -> Reason
     let kind = word.kind;
     match kind {
         Kind::NoClass(why) => Reason::NoClass { why, at },
-        _ => listed_reason(number, at),
+        _ => class_reason(number, at),
     }
 }
 

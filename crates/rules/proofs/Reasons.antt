@@ -52,13 +52,15 @@ reasonOf v = getD (reasons (whyFrom v) (placeOf v)) (numberOf v - 1) Layout
 abbrev pub others : List ℕ
 others = 0 ∷ 1 ∷ 2 ∷ 4 ∷ 5 ∷ 6 ∷ 7 ∷ 8 ∷ 9 ∷ 10 ∷ 11 ∷ 12 ∷ 13 ∷ []
 
+-- 4 to 11 and 14 carry an address, the others none
+abbrev pub CarriesExactly : Verdict → Type 0
+CarriesExactly v = carriesAddress v ≡ ((leb 4 (numberOf v) && leb (numberOf v) 11) || eqb (numberOf v) 14)
+
 pub record Lawful (r : Reason) : Type 0 where
-  -- a reason is no acceptance
   pub refuses : 1 ≤ numberOf (reasonVerdict r)
   pub told : Told (reasonVerdict r)
-  -- 4 to 11 and 14 carry an address, the others none
-  pub carries : carriesAddress (reasonVerdict r) ≡ ((leb 4 (numberOf (reasonVerdict r)) && leb (numberOf (reasonVerdict r)) 11) || eqb (numberOf (reasonVerdict r)) 14)
-  -- all but 4 have no why
+  pub carries : CarriesExactly (reasonVerdict r)
+  -- all but `NoClass` have no why
   pub other : OneOf others (tagOf declared.the-type r) → 0 ≡ whyIn (reasonVerdict r)
   pub named : reasonOf (reasonVerdict r) ≡ r
 
@@ -78,8 +80,15 @@ lawful PatchShape = record { refuses = lit≤ tt; told = bare-told _ (lit≤ tt)
 lawful Disagreement = record { refuses = lit≤ tt; told = bare-told _ (lit≤ tt) refl refl; carries = refl; other = λ _. refl; named = refl }
 lawful (Stranded at) = record { refuses = lit≤ tt; told = bare-told _ (lit≤ tt) refl refl; carries = refl; other = λ _. refl; named = refl }
 
+-- a reason is no acceptance
+pub reason-refuses : (r : Reason) → 1 ≤ numberOf (reasonVerdict r)
+reason-refuses r = lawful r .refuses
+
+pub carries-exactly : (r : Reason) → CarriesExactly (reasonVerdict r)
+carries-exactly r = lawful r .carries
+
 pub reason-not : (r : Reason) → reasonVerdict r ≡ accepted → ⊥
-reason-not r e = omega (arith, ap numberOf e, lawful r .refuses)
+reason-not r e = omega (arith, ap numberOf e, reason-refuses r)
 
 -- an answer's verdict says which answer it is
 pub verdict-tells : (r s : Outcome) → verdictOf r ≡ verdictOf s → r ≡ s

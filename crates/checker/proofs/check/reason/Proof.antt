@@ -16,9 +16,9 @@ returns c =
     let a = c .before .before .before .args in
     sym (ap (λ (k : Kind). refusalOf k (a .number) (a .at)) (c .before .kind .given .1))
 
-listed-reason-requires : tie.Need-listed-reason-requires
+class-reason-requires : tie.Need-class-reason-requires
 unfolding inNoClass
-listed-reason-requires c κs =
+class-reason-requires c κs =
     let a = c .before .args in
     let other : a .number ≡ 4 → ⊥ = eqb-false _ _ (sym (c .before .pre .0) ∙ sym (other-no-class (λ why. true) false (a .word .kind) (c .match .keys2))) in
     let least = c .before .pre .1 in
@@ -28,7 +28,7 @@ listed-reason-requires c κs =
 returns-2 : tie.Need-returns-2
 returns-2 c =
     let a = c .before .before .args in
-    c .listed-reason .ensures ∙ other-no-class (λ why. noClass why (a .at)) (refusedAt (a .number) (a .at)) (a .word .kind) (c .before .match .keys2)
+    c .class-reason .ensures ∙ other-no-class (λ why. noClass why (a .at)) (refusedAt (a .number) (a .at)) (a .word .kind) (c .before .match .keys2)
 
 pub reason-spec : {M : Type 1} → statement M
-reason-spec = tie.close (tie.spec (λ c. search needs) listed-reason-requires returns returns-2)
+reason-spec = tie.close (tie.spec (λ c. search needs) class-reason-requires returns returns-2)

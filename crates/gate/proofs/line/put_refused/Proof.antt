@@ -4,7 +4,7 @@ use native.Mathlib.Omega.{arith}
 use mathlib.Core.Path.{_∙_, sym, ap, ap₂, subst}
 use mathlib.Core.List.{List, _++_}
 use Rattle.rules.specs.Outcome.{reasonVerdict}
-use Rattle.rules.proofs.Reasons.{lawful}
+use Rattle.rules.proofs.Reasons.{reason-refuses}
 use Rattle.gate.specs.Text.{ascii, numeral, Puts}
 use Rattle.gate.proofs.Texts.{puts-then}
 use Rattle.gate.proofs.Lines.{line-alone, line-at}
@@ -24,7 +24,7 @@ returns c = λ bytes.
     let carries = c .before .before .before .before .before .before .carries-address in
     subst
     (λ (text : List ℕ). Puts (a .out .now) 0 text (last .put2 .last .0) (last .put2 .result))
-    (ap (λ (n : ℕ). ascii "refused " ++ numeral n ++ ascii "\n") (count .ensures) ∙ line-alone (reasonVerdict (a .reason)) bytes (lawful (a .reason) .refuses) (sym (carries .ensures) ∙ not-true (carries .result) (test .if1 .taken)))
+    (ap (λ (n : ℕ). ascii "refused " ++ numeral n ++ ascii "\n") (count .ensures) ∙ line-alone (reasonVerdict (a .reason)) bytes (reason-refuses (a .reason)) (sym (carries .ensures) ∙ not-true (carries .result) (test .if1 .taken)))
     (puts-then (omega arith) (puts-then (omega arith) (word .put .ensures) (told .put-number .ensures .0)) (last .put2 .ensures))
 
 returns-2 : tie.Need-returns-2

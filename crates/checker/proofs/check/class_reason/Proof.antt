@@ -1,10 +1,10 @@
--- `check::listed_reason` meets its contract: each arm is told its number, and the last is 11.
+-- `check::class_reason` meets its contract: each arm is told its number, and the last is 11.
 use mathlib.Core.Path.{_≡_}
 use Prim.Native.Nat.{ℕ, _+_, _≤_}
 use native.Mathlib.Nat.{le-antisymm}
 use native.Mathlib.Omega.{arith}
-use Rattle.checker.proofs.check.listed_reason.Statement.{statement}
-use Rattle.checker.proofs.check.listed_reason.Tie as tie
+use Rattle.checker.proofs.check.class_reason.Statement.{statement}
+use Rattle.checker.proofs.check.class_reason.Tie as tie
 
 up : {m n : ℕ} → m ≤ n → (n ≡ m → ⊥) → m + 1 ≤ n
 up h d = omega arith
@@ -15,8 +15,8 @@ last c =
     le-antisymm (c .before .pre .1)
     (up (up (up (up (up (up (c .before .pre .0) (left .0 .0 .0 .0 .0 .1)) (left .0 .0 .0 .0 .1)) (left .0 .0 .0 .1)) (left .0 .0 .1)) (left .0 .1)) (left .1))
 
-pub listed-reason-spec : {M : Type 1} → statement M
-listed-reason-spec =
+pub class-reason-spec : {M : Type 1} → statement M
+class-reason-spec =
     tie.close
     (tie.spec
     (λ c. rw (c .match .keys1))
