@@ -19,7 +19,7 @@ use Rattle.rules.specs.Layout.{layoutHolds, lengthHolds, addressOf}
 use Rattle.rules.specs.Outcome.{Verdict, accepted, refused, refusedAt, noClass, verdictOf, numberOf, carriesAddress, refusalOf}
 use Rattle.rules.proofs.Reasons.{verdict-tells}
 use Rattle.rules.proofs.Lowest.{fault-none, none-fault, lowest, lowest-is, no-class-4}
-use Rattle.rules.proofs.Refusal.{refusal-carries, refusal-number}
+use Rattle.rules.proofs.Refusal.{addressed-not, refusal-not, refusal-number}
 use Rattle.checker.specs.Lists.{firstFrom}
 use Rattle.checker.specs.Region.{readingAt, roleAt}
 use Rattle.checker.specs.Standing.{landings, faultAt, breaksAt}
@@ -31,10 +31,6 @@ use Rattle.checker.proofs.Lists.{list-length, list-at}
 -- a refusal is no acceptance
 pub refused-not : (a : ℕ) → refused a ≡ accepted → ⊥
 refused-not a e = let z : _≡_ {A = ℕ} 1 0 = cc in omega arith
-
--- an answer with an address is none without
-pub addressed-not : (v w : Verdict) → carriesAddress v ≡ true → carriesAddress w ≡ false → v ≡ w → ⊥
-addressed-not v w p q e = true≢false (sym p ∙ ap carriesAddress e ∙ q)
 
 -- and changes nothing
 pub after-refusal : (v : Verdict) (new old : List ℕ) → (v ≡ accepted → ⊥) → ledgerAfter v new old ≡ old
@@ -103,9 +99,6 @@ module _ (l : Layout) (code : List ℕ) where
   abbrev pub refusal : ℕ → Verdict
   refusal k = refusalOf (readingAt code k .kind) (codeFault l code k) (addressOf l k)
 
-  refusal-not : (k : ℕ) (v : Verdict) → carriesAddress v ≡ false → refusal k ≡ v → ⊥
-  refusal-not k v = addressed-not (refusal k) v (refusal-carries (readingAt code k .kind) (codeFault l code k) (addressOf l k))
-
   words-refuse : first < wordsOf code → wordsVerdict l code ≡ refusal first
   unfolding wordsVerdict first
   words-refuse h = simp (lt-ltb first (wordsOf code) h)
@@ -139,7 +132,7 @@ module _ (l : Layout) (code : List ℕ) where
   words-accepted : (wordsVerdict l code ≡ accepted) ↔ AllMeet
   words-accepted = (
     (λ e.
-        by-test (ltb first (wordsOf code)) (λ t. absurd (refusal-not first accepted refl (sym (words-refuse (ltb-true _ _ t)) ∙ e)))
+        by-test (ltb first (wordsOf code)) (λ t. absurd (refusal-not (readingAt code first .kind) (codeFault l code first) (addressOf l first) accepted refl (sym (words-refuse (ltb-true _ _ t)) ∙ e)))
         (λ t. let a = ltb-false first (wordsOf code) t in let b = first-most in to-end (omega arith))),
     λ h. words-accept (let e = all-to-end h in omega arith),
   )

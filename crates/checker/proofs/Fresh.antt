@@ -4,7 +4,7 @@ use Prim.Native.Nat.{ℕ, _+_, _-_, _*_, _/_, _%_, _≤_, _<_}
 use native.Mathlib.Omega.{arith}
 use mathlib.Core.Path.{_≡_, _∙_, refl, sym, ap, ap₂, subst}
 use mathlib.Core.Logic.{_↔_}
-use mathlib.Core.Bool.{true, false, cond}
+use mathlib.Core.Bool.{true, cond}
 use mathlib.Core.List.{List}
 use lib.Dec.{ltb, leb}
 use lib.ListN.{length, getD}
@@ -12,8 +12,8 @@ use borrow.Author.Tests.{eq-eqb, ne-eqb, le-leb, le-ltb, ltb-false}
 use Rattle.decoder.proofs.Bools.{by-test}
 use Rattle.rules.specs.declared.layout.Layout.{Layout}
 use Rattle.rules.specs.Layout.{layoutHolds, lengthHolds, addressOf}
-use Rattle.rules.specs.Outcome.{Verdict, accepted, refused, refusedAt, carriesAddress, refusalOf}
-use Rattle.rules.proofs.Refusal.{refusal-carries}
+use Rattle.rules.specs.Outcome.{Verdict, accepted, refused, refusedAt, refusalOf}
+use Rattle.rules.proofs.Refusal.{addressed-not, refusal-not}
 use Rattle.rules.proofs.Says.{length-says}
 use Rattle.checker.specs.Lists.{all, firstFrom}
 use Rattle.checker.specs.Region.{readingAt, roleAt}
@@ -24,7 +24,7 @@ use Rattle.checker.specs.Edit.{Fits}
 use Rattle.checker.proofs.First.{first-miss, first-none}
 use Rattle.checker.proofs.Lists.{split, all-yes, list-is, list-length, list-at}
 use Rattle.checker.proofs.Checks.{landings-most}
-use Rattle.checker.proofs.Demands.{refused-not, addressed-not, accepted-exactly, fault-meets, meets-fault, ledger-entries}
+use Rattle.checker.proofs.Demands.{refused-not, accepted-exactly, fault-meets, meets-fault, ledger-entries}
 use Rattle.checker.proofs.Accepted.{layout-held, length-held, all-meet}
 use Rattle.checker.proofs.Placed.{Placed, Parts, parts}
 use Rattle.checker.proofs.Edited.{role-same, edited-length}
@@ -163,9 +163,6 @@ module _ (l : Layout) (code : List ℕ) (is-accepted : checkVerdict l code (word
   abbrev refusal : ℕ → Verdict
   refusal k = refusalOf (readingAt new k .kind) (fault k) (addressOf l (first + k))
 
-  refusal-not : (k : ℕ) (v : Verdict) → carriesAddress v ≡ false → refusal k ≡ v → ⊥
-  refusal-not k v = addressed-not (refusal k) v (refusal-carries (readingAt new k .kind) (fault k) (addressOf l (first + k)))
-
   words-go : Sound → Free → newWordsVerdict l ledger first old new ≡ accepted
   unfolding newWordsVerdict strandedVerdict
   words-go s f =
@@ -175,7 +172,7 @@ module _ (l : Layout) (code : List ℕ) (is-accepted : checkVerdict l code (word
   words-went : newWordsVerdict l ledger first old new ≡ accepted → Sound × Free
   unfolding newWordsVerdict strandedVerdict
   words-went e =
-      let a = went fault m refusal (strandedVerdict l ledger first old new) (λ k. refusal-not k accepted refl) e in
+      let a = went fault m refusal (strandedVerdict l ledger first old new) (λ k. refusal-not (readingAt new k .kind) (fault k) (addressOf l (first + k)) accepted refl) e in
       let b = went strand m (λ k. refusedAt 14 (addressOf l (first + k))) accepted (λ k. addressed-not _ accepted refl refl) (a .1) in
       (a .0, b .0)
 
@@ -217,5 +214,5 @@ module _ (l : Layout) (code : List ℕ) (is-accepted : checkVerdict l code (word
       let w = sym by-words ∙ e in
       let k = firstFrom fault 0 m in
       let s = firstFrom strand 0 m in
-      by-test (ltb k m) (λ t. refusal-not k (refused 13) refl (sym (simp t) ∙ w))
+      by-test (ltb k m) (λ t. refusal-not (readingAt new k .kind) (fault k) (addressOf l (first + k)) (refused 13) refl (sym (simp t) ∙ w))
       (λ t. by-test (ltb s m) (λ u. addressed-not (refusedAt 14 (addressOf l (first + s))) (refused 13) refl refl (sym (simp (t, u)) ∙ w)) (λ u. refused-not 13 (sym w ∙ simp (t, u))))

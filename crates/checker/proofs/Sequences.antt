@@ -7,11 +7,12 @@ use lib.ListN.{length, getD}
 use lib.Seq.{ext-getD}
 use Rattle.rules.specs.declared.layout.Layout.{Layout}
 use Rattle.rules.specs.Outcome.{Verdict, accepted, refused, refusedAt, noClass}
+use Rattle.rules.proofs.Refusal.{addressed-not}
 use Rattle.checker.specs.Check.{wordsOf, checkVerdict, ledgerOf, ledgerAfter}
 use Rattle.checker.specs.Edit.{piece, edited, Edit, Fits, AllFit, standing, answer, codeThen, ledgerThen, whole-edit, AsFresh, AllAsFresh}
 use Rattle.checker.proofs.Lists.{split, list-length, list-at}
 use Rattle.checker.proofs.Edited.{edited-length, edited-in, edited-below, edited-above}
-use Rattle.checker.proofs.Demands.{refused-not, addressed-not, after-refusal}
+use Rattle.checker.proofs.Demands.{refused-not, after-refusal}
 use Rattle.checker.proofs.Fresh.{exactly-fresh, fresh-ledger, never-13}
 
 -- an answer is acceptance or it is not

@@ -1,8 +1,8 @@
--- The refusal of a word carries an address, and its number, where a word in no class comes with 4. A why stands exactly beside 4.
+-- The refusal of a word carries an address, and its number, where a word in no class comes with 4; a why stands exactly beside 4.
 use Prim.Native.Nat.{ℕ, _≤_}
 use native.Mathlib.Omega.{arith}
 use mathlib.Core.Path.{_≡_, _∙_, refl, sym, ap}
-use mathlib.Core.Bool.{true, false}
+use mathlib.Core.Bool.{true, false, true≢false}
 use lib.Dec.{eqb, leb, lit≤}
 use borrow.Author.Tests.{eqb-true}
 use Rattle.decoder.specs.declared.reading.Why.{Why}
@@ -29,13 +29,17 @@ no-class-told SystemCall at = record { most = lit≤ tt; why = refl; why-most = 
 no-class-told RegisterIndexed at = record { most = lit≤ tt; why = refl; why-most = lit≤ tt }
 no-class-told Unlisted at = record { most = lit≤ tt; why = refl; why-most = lit≤ tt }
 
+-- an answer with an address is none without
+pub addressed-not : (v w : Verdict) → carriesAddress v ≡ true → carriesAddress w ≡ false → v ≡ w → ⊥
+addressed-not v w p q e = true≢false (sym p ∙ ap carriesAddress e ∙ q)
+
 module _ (k : Kind) (number at : ℕ) where
   -- what holds of both kinds of refusal holds of the word's
   either : (P : Verdict → Type 0) → ((why : Why) → k ≡ NoClass why → P (noClass why at)) → (inNoClass k ≡ false → P (refusedAt number at)) → P (refusalOf k number at)
   either P yes′ no′ = by-class (λ why. noClass why at) (refusedAt number at) P k yes′ no′
 
-  pub refusal-carries : carriesAddress (refusalOf k number at) ≡ true
-  refusal-carries = either (λ v. carriesAddress v ≡ true) (λ why e. refl) (λ f. refl)
+  pub refusal-not : (v : Verdict) → carriesAddress v ≡ false → refusalOf k number at ≡ v → ⊥
+  refusal-not v = addressed-not (refusalOf k number at) v (either (λ v. carriesAddress v ≡ true) (λ why e. refl) (λ f. refl))
 
   module _ (four : inNoClass k ≡ eqb number 4) where
     pub refusal-number : numberOf (refusalOf k number at) ≡ number
