@@ -42,11 +42,11 @@ static const char *const MEANING[REFUSALS + 1] = {
 };
 
 static const char *const WHY[WHYS + 1] = {
-    [0] = "why, this driver does not know",
+    [0] = "for a why that this driver does not know",
     [AWL_WHY_CONDITION_15] = "its condition is 15",
     [AWL_WHY_SYSTEM_CALL] = "it is a system call",
     [AWL_WHY_REGISTER_INDEXED] = "it is a load or store indexed by a register",
-    [AWL_WHY_UNLISTED] = "it is of no kind that the gate knows",
+    [AWL_WHY_UNLISTED] = "no class of words takes it",
 };
 
 /* Room for one byte more than the gate takes, so that a longer file is refused and not cut to fit. */

@@ -32,9 +32,10 @@ fn print_reason(reason: Reason) {
         io::write_all(STDOUT_FILENO, b" at ");
         io::print_decimal(STDOUT_FILENO, address(reason) as u64);
     }
-    if why(reason) != 0 {
+    let told = why(reason);
+    if told != 0 {
         io::write_all(STDOUT_FILENO, b", why ");
-        io::print_decimal(STDOUT_FILENO, why(reason) as u64);
+        io::print_decimal(STDOUT_FILENO, told as u64);
     }
     io::write_all(STDOUT_FILENO, b"\n");
 }

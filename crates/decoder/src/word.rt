@@ -76,13 +76,11 @@ fn is_multiply(word: u32) -> bool
     (plain | (head == 1)) & (word / 16 % 16 == 9)
 }
 
-// Why a word is in no class, of one that is in none.
+// Why a word that no class takes is in none, its condition apart.
 fn why(word: u32) -> Why
+    requires { ⌜ eqb (conditionOf word) 15 ≡ false ⌝ }
     ensures { λ r. ⌜ r ≡ whyOf word ⌝ }
 {
-    if word / 0x1000_0000 % 16 == 15 {
-        return Why::Condition15;
-    }
     if word / 0x100_0000 % 16 == 15 {
         return Why::SystemCall;
     }

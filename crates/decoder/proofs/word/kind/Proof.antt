@@ -46,5 +46,5 @@ kind-spec =
     (λ c. search needs)
     low-kind-requires
     (λ c. search needs)
-    (λ c κs. search needs)
+    (λ c κs. ne-eqb _ _ (c .before .before .before .before .if1 .left))
     returns-5)

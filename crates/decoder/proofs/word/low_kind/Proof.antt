@@ -80,5 +80,5 @@ low-kind-spec =
     (λ c. search needs)
     returns-4
     returns-5
-    (λ c κs. search needs)
+    (λ c κs. c .before .before .before .before .before .before .before .pre .0)
     returns-6)

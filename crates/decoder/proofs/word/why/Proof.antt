@@ -6,19 +6,15 @@ use Rattle.decoder.proofs.word.why.Tie as tie
 
 returns : tie.Need-returns
 unfolding whyOf
-returns c = simp (eq-eqb _ _ (c .if1 .taken))
+returns c = simp (c .before .pre, eq-eqb _ _ (c .if1 .taken))
 
 returns-2 : tie.Need-returns-2
 unfolding whyOf
-returns-2 c = simp (ne-eqb _ _ (c .before .if1 .left), eq-eqb _ _ (c .if2 .taken))
+returns-2 c = simp (c .before .before .pre, ne-eqb _ _ (c .before .if1 .left), c .if2 .taken)
 
 returns-3 : tie.Need-returns-3
 unfolding whyOf
-returns-3 c = simp (ne-eqb _ _ (c .before .before .if1 .left), ne-eqb _ _ (c .before .if2 .left), c .if3 .taken)
-
-returns-4 : tie.Need-returns-4
-unfolding whyOf
-returns-4 c = simp (ne-eqb _ _ (c .before .before .if1 .left), ne-eqb _ _ (c .before .if2 .left), c .if3 .left)
+returns-3 c = simp (c .before .before .pre, ne-eqb _ _ (c .before .if1 .left), c .if2 .left)
 
 pub why-spec : {M : Type 1} → statement M
-why-spec = tie.close (tie.spec returns returns-2 returns-3 returns-4)
+why-spec = tie.close (tie.spec returns returns-2 returns-3)
