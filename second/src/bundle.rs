@@ -18,7 +18,7 @@ pub enum Role {
 impl Role {
     /// Whether a direct branch may land on a word of this role.
     pub fn is_target(self) -> bool {
-        self == Role::Plain
+        matches!(self, Role::Plain | Role::Head)
     }
 }
 

@@ -29,8 +29,7 @@ fn judge(layout: &Layout, code: &[u8], entries: usize) -> Result<Survey, Outcome
     }
 }
 
-/// Writes the ledger that the code bears out.
-pub fn write(survey: &Survey, ledger: &mut [u32]) {
+fn write(survey: &Survey, ledger: &mut [u32]) {
     for (slot, &role) in ledger.iter_mut().zip(&survey.roles) {
         *slot = entry(role, 0);
     }

@@ -1,7 +1,6 @@
 //! Families of reproducible random calls, to compare programs by: here regions
 //! for the check.
 
-mod heads;
 mod pairs;
 pub mod patches;
 mod places;
@@ -9,8 +8,7 @@ mod transfers;
 
 use crate::make::*;
 use crate::regions::{
-    self, address, aim, aim_at_head, bundle, head_bundle, region, some_condition, some_low,
-    some_mask, some_unclassed, spoil, FREE,
+    self, address, aim, bundle, region, some_low, some_mask, some_unclassed, spoil, FREE,
 };
 use crate::rng::Rng;
 use crate::{Layout, CODE_LIMIT};
@@ -80,7 +78,7 @@ const REGIONS: [Family<Case>; 12] = [
     Family { name: "edges", share: 4, make: edges },
     Family { name: "pairs", share: 6, make: pairs::pairs },
     Family { name: "transfers", share: 4, make: transfers::transfers },
-    Family { name: "heads", share: 2, make: heads::heads },
+    Family { name: "heads", share: 1, make: heads },
     Family { name: "branches", share: 3, make: places::branches },
     Family { name: "literals", share: 2, make: places::literals },
     Family { name: "layouts", share: 1, make: places::layouts },
@@ -100,13 +98,13 @@ fn nops(rng: &mut Rng, most: usize) -> Vec<u32> {
     vec![NOP; 4 * (1 + rng.below(most))]
 }
 
-/// Puts a branch or call to a word of the region in the place of a nop, by choice
+/// Puts a branch to a word of the region in the place of a nop, by choice
 /// before that word, so that its role tells even where it breaks a rule.
 fn visit(rng: &mut Rng, layout: &Layout, words: &mut [u32], target: usize) {
     let own = if rng.once_in(2) { rng.below(target + 1) } else { rng.below(words.len()) };
     if words[own] == NOP {
-        let (own_address, call) = (address(layout, own) as u32, own % 4 == 3 && rng.once_in(2));
-        words[own] = branch(some_condition(rng), call, own_address, address(layout, target));
+        let own_address = address(layout, own) as u32;
+        words[own] = branch(ALWAYS, false, own_address, address(layout, target));
     }
 }
 
@@ -216,9 +214,31 @@ fn set(word: &mut u32, place: u32, field: u32) {
     *word = *word & !(15 << place) | field << place;
 }
 
+/// Heads in right and wrong slots, all but heads, any data behind them.
+fn heads(rng: &mut Rng) -> Case {
+    let mut words = nops(rng, 4);
+    let in_slot = if rng.once_in(4) { rng.below(4) } else { 0 };
+    let first = 4 * rng.below(words.len() / 4);
+    words[first + in_slot] = if rng.once_in(5) { HEAD ^ 1 << rng.field(32) } else { HEAD };
+    for word in &mut words[first + in_slot + 1..first + 4] {
+        *word = match rng.below(4) {
+            0 => HEAD,
+            1 => branch(ALWAYS, rng.once_in(2), 0, 4 * rng.below(8) as i64),
+            2 => NOP,
+            _ => rng.word(),
+        };
+    }
+    let layout = layout(rng, &words);
+    for _ in 0..rng.below(3) {
+        let target = rng.below(words.len());
+        visit(rng, &layout, &mut words, target);
+    }
+    Case::new(layout, &words)
+}
+
 /// One bundle of a case where the words themselves are odd.
 fn odd_bundle(rng: &mut Rng) -> Vec<u32> {
-    let make = rng.pick(&[random, edges, pairs::pairs, transfers::transfers, heads::heads]);
+    let make = rng.pick(&[random, edges, pairs::pairs, transfers::transfers, heads]);
     let words = words(&make(rng).code);
     let first = 4 * rng.below(words.len() / 4);
     words[first..first + 4].to_vec()
@@ -245,33 +265,27 @@ fn valid_words(rng: &mut Rng, most: usize) -> (Layout, Vec<u32>) {
     (layout, words)
 }
 
-/// Some hundreds of words, now and then the most there can be, mostly sound, else
-/// with a word damaged or a branch to a head.
+/// Some hundreds of words, now and then the most there can be, mostly sound.
 fn large(rng: &mut Rng) -> Case {
     let bundles = if rng.once_in(500) { CODE_LIMIT / 16 } else { 20 + rng.below(100) };
     let layout = regions::layout(rng, 16 * bundles);
     let mut words = region(rng, &layout, bundles);
-    let all = 0..words.len();
-    match rng.below(6) {
-        0 | 1 => spoil(rng, &mut words),
-        2 => aim_at_head(rng, &layout, &mut words, all),
-        _ => {}
+    if rng.once_in(3) {
+        spoil(rng, &mut words);
     }
     Case::new(layout, &words)
 }
 
-/// Bundles full of branches among heads and ordinary ones, all soundly aimed.
+/// Bundles full of branches among ordinary ones, all soundly aimed.
 fn web(rng: &mut Rng, layout: &Layout, bundles: usize) -> Vec<u32> {
     let mut words = Vec::new();
     for _ in 0..bundles {
-        words.extend(match rng.below(9) {
-            0 => head_bundle(rng),
-            1 | 2 => bundle(rng, layout.test_pairs),
-            _ => {
-                let calls = [false, false, false, rng.once_in(2)];
-                calls.map(|call| branch(rng.field(15), call, 0, 0))
-            }
-        });
+        if rng.once_in(3) {
+            words.extend(bundle(rng, layout.test_pairs));
+        } else {
+            let calls = [false, false, false, rng.once_in(2)];
+            words.extend(calls.map(|call| branch(rng.field(15), call, 0, 0)));
+        }
     }
     let all = 0..words.len();
     aim(rng, layout, &mut words, all);

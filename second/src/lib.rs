@@ -1,6 +1,6 @@
-//! A second, plain reading of document 01, and of requests 1, 3, 6 and 9 of
-//! document 02: the check and the patch of a region of 32-bit ARM code, written
-//! from the papers alone.
+//! A second, plain reading of document 01, and of requests 1, 3 and 6 of document
+//! 02: the check and the patch of a region of 32-bit ARM code, written from the
+//! papers alone.
 //!
 //! With the feature `awl`, and `patch` once the library has its patch call, the
 //! programs `compare`, `exhaustive` and `bench` set it beside the library that

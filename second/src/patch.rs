@@ -98,8 +98,8 @@ impl Counts {
         within(&edited).then_some(Counts { left, edited })
     }
 
-    /// The first word of the patch that is inner, data or a head by the new
-    /// bundles while a branch from elsewhere lands on it.
+    /// The first word of the patch that is inner or data by the new bundles
+    /// while a branch from elsewhere lands on it.
     fn first_stranded(&self, first: usize, after: &Survey) -> Option<usize> {
         let mut patched = (first..).zip(&after.roles);
         let stranded = patched.find(|&(word, role)| !role.is_target() && self.left[word] != 0);

@@ -3,7 +3,7 @@
 use crate::bundle::{Bundle, Role, SLOTS};
 use crate::make::*;
 use crate::rng::Rng;
-use crate::word::{read, Class, Reading};
+use crate::word::{read, Class};
 use crate::{Layout, BUNDLE, SANDBOX_END, TRAMPOLINES, WORD};
 use std::ops::Range;
 
@@ -57,7 +57,7 @@ pub fn region(rng: &mut Rng, layout: &Layout, bundles: usize) -> Vec<u32> {
 /// A bundle of acceptable words, but for aims yet to be taken.
 pub fn bundle(rng: &mut Rng, test_pairs: bool) -> [u32; SLOTS] {
     if rng.once_in(12) {
-        return head_bundle(rng);
+        return [HEAD, rng.word(), branch(ALWAYS, false, 0, 0), rng.word()];
     }
     let mut bundle = [NOP; SLOTS];
     let mut slot = 0;
@@ -67,17 +67,6 @@ pub fn bundle(rng: &mut Rng, test_pairs: bool) -> [u32; SLOTS] {
         slot += item.len();
     }
     bundle
-}
-
-/// A head and its data: heads, nops, branches to words about and random words.
-pub fn head_bundle(rng: &mut Rng) -> [u32; SLOTS] {
-    let mut data = || match rng.below(4) {
-        0 => HEAD,
-        1 => NOP,
-        2 => branch(ALWAYS, rng.once_in(2), 0, 4 * (rng.below(12) as i64 - 4)),
-        _ => rng.word(),
-    };
-    [HEAD, data(), data(), data()]
 }
 
 /// One word, or a pair where there is room.
@@ -234,7 +223,7 @@ pub fn aim(rng: &mut Rng, layout: &Layout, words: &mut [u32], part: Range<usize>
         match reading.class {
             Class::Branch => {
                 let target = trampoline(rng, layout, own).unwrap_or_else(|| rng.pick(&targets));
-                words[word] = aimed(&reading, own, target);
+                words[word] = branch(reading.condition(), reading.is_call(), own, target);
             }
             _ if reading.is_literal_load() => {
                 let first = word.saturating_sub(1_000);
@@ -247,26 +236,8 @@ pub fn aim(rng: &mut Rng, layout: &Layout, words: &mut [u32], part: Range<usize>
     }
 }
 
-/// Aims a direct branch in a part of a region at a head, where there are both.
-pub fn aim_at_head(rng: &mut Rng, layout: &Layout, words: &mut [u32], part: Range<usize>) {
-    let roles = roles(words);
-    let is_branch = |word: usize| read(words[word]).class == Class::Branch;
-    let heads: Vec<usize> = (0..words.len()).filter(|&w| roles[w] == Role::Head).collect();
-    let branches: Vec<usize> = part.filter(|&w| roles[w] != Role::Data && is_branch(w)).collect();
-    if !heads.is_empty() && !branches.is_empty() {
-        let (place, head) = (rng.pick(&branches), rng.pick(&heads));
-        let own = address(layout, place) as u32;
-        words[place] = aimed(&read(words[place]), own, address(layout, head));
-    }
-}
-
-/// A branch as it was, but for its target.
-fn aimed(reading: &Reading, own: u32, target: i64) -> u32 {
-    branch(reading.condition(), reading.is_call(), own, target)
-}
-
 /// The region with new bundles in a part of it: mostly acceptable ones, else
-/// nops, heads, copies of other bundles, one word spoilt or a branch to a head.
+/// nops, a head, copies of other bundles, or one word spoilt.
 pub fn edit(rng: &mut Rng, layout: &Layout, words: &[u32], part: Range<usize>) -> Vec<u32> {
     let mut edited = words.to_vec();
     let style = rng.below(8);
@@ -274,7 +245,7 @@ pub fn edit(rng: &mut Rng, layout: &Layout, words: &[u32], part: Range<usize>) -
         let copied = SLOTS * rng.below(words.len() / SLOTS);
         let new = match style {
             0 => [NOP; SLOTS],
-            1 => head_bundle(rng),
+            1 => [HEAD, rng.word(), rng.word(), rng.word()],
             2 => std::array::from_fn(|slot| words[copied + slot]),
             _ => bundle(rng, layout.test_pairs),
         };
@@ -283,10 +254,8 @@ pub fn edit(rng: &mut Rng, layout: &Layout, words: &[u32], part: Range<usize>) -
     if style != 2 {
         aim(rng, layout, &mut edited, part.clone());
     }
-    match rng.below(12) {
-        0 | 1 => spoil(rng, &mut edited[part]),
-        2 => aim_at_head(rng, layout, &mut edited, part),
-        _ => {}
+    if rng.once_in(6) {
+        spoil(rng, &mut edited[part]);
     }
     edited
 }

@@ -1,5 +1,5 @@
 //! Every statement of document 01's "Words from the bench", in its order, and the
-//! words given for requests 1, 3, 6 and 9 of document 02.
+//! words given for requests 1, 3 and 6 of document 02.
 
 use crate::families::{patches::Call, Case};
 use crate::make::{padded, NOP as N};
@@ -20,14 +20,6 @@ const FROM_R9: [u32; 4] = [0xE3C9_0103, 0xE580_1000, N, N];
 const TWO_MASKS: [u32; 4] = [0xE3C0_D103, 0xE3CD_D103, N, N];
 /// The closing mask of r13 is a branch mask of it too.
 const TWO_PAIRS: [u32; 4] = [0xE1A0_D000, 0xE3CD_D13F, 0xE12F_FF1D, N];
-
-/// A head and its data.
-const LITERALS: [u32; 4] = [0xE125_BE70, 1, 2, 3];
-/// A branch to the first word of the next bundle.
-const ONWARD: [u32; 4] = [N, N, N, 0xEAFF_FFFF];
-/// The ledgers of ONWARD before NOPS, and of NOPS before LITERALS.
-const LANDED: [u32; 8] = [0, 0, 0, 0, 4, 0, 0, 0];
-const HEADED: [u32; 8] = [0, 0, 0, 0, 3, 2, 2, 2];
 
 /// Words in no class, and why.
 const NO_CLASS: [(Why, &[u32]); 17] = [
@@ -54,7 +46,7 @@ const NO_CLASS: [(Why, &[u32]); 17] = [
 ];
 
 pub fn checks() -> Vec<Row<Case>> {
-    [bench(), transfers(), masks(), whys(), heads()].into_iter().flatten().collect()
+    [bench(), transfers(), masks(), whys()].into_iter().flatten().collect()
 }
 
 fn bench() -> Vec<Row<Case>> {
@@ -156,40 +148,8 @@ fn whys() -> Vec<Row<Case>> {
     alone.chain(others).collect()
 }
 
-/// Request 9: back to a head and to the words about it, on to them, then what is
-/// no direct branch to a head, and what is no head.
-fn heads() -> Vec<Row<Case>> {
-    let behind = |words: &[u32]| [&LITERALS, words].concat();
-    let between = |words: &[u32]| [&NOPS, &LITERALS, words].concat();
-    let before = |words: [u32; 4]| [words, LITERALS, NOPS].concat();
-    vec![
-        refuses(&behind(&[0xEAFF_FFFA]), 11, 131_088),
-        refuses(&behind(&[0x0AFF_FFFA]), 11, 131_088),
-        refuses(&behind(&[0xEAFF_FFFB]), 11, 131_088),
-        refuses(&behind(&[0xEAFF_FFFD]), 11, 131_088),
-        accepts(&behind(&[0xEAFF_FFFE]), &[3, 2, 2, 2, 4, 0, 0, 0]),
-        refuses(&behind(&[N, N, N, 0xEBFF_FFF7]), 11, 131_100),
-        accepts(&behind(&[N, N, N, 0xEBFF_FFFB]), &[3, 2, 2, 2, 4, 0, 0, 0]),
-        refuses(&behind(&[0xEBFF_FFFA]), 9, 131_088),
-        refuses(&between(&[0xEAFF_FFFA]), 11, 131_104),
-        accepts(&between(&[0xEAFF_FFF9]), &[0, 0, 0, 4, 3, 2, 2, 2, 0, 0, 0, 0]),
-        refuses(&before([N, N, N, 0xEAFF_FFFF]), 11, 131_084),
-        refuses(&before([0xEA00_0002, N, N, N]), 11, 131_072),
-        accepts(&before([0xEA00_0001, N, N, N]), &[0, 0, 0, 4, 3, 2, 2, 2, 0, 0, 0, 0]),
-        refuses(&before([0xEA00_0003, N, N, N]), 11, 131_072),
-        accepts(&before([0xEA00_0006, N, N, N]), &[0, 0, 0, 0, 3, 2, 2, 2, 4, 0, 0, 0]),
-        accepts(&behind(&[0xEAFF_BFFA]), &[3, 2, 2, 2, 0, 0, 0, 0]),
-        accepts(&[0xE125_BE70, 0xEAFF_FFFD, 0xEAFF_FFFC, 0xEBFF_FFFB], &[3, 2, 2, 2]),
-        accepts(&behind(&[0xE3C0_013F, 0xE12F_FF10]), &[3, 2, 2, 2, 0, 1, 0, 0]),
-        accepts(&behind(&[0xE51F_0018]), &[3, 2, 2, 2, 0, 0, 0, 0]),
-        in_no_class(&[N, N, N, 0xEAFF_FFFF, 0x0125_BE70], Unlisted, 131_088),
-        in_no_class(&[N, N, N, 0xEA00_0000, N, 0xE125_BE70], Unlisted, 131_092),
-    ]
-}
-
 pub fn patches() -> Vec<Row<Call>> {
-    let parts = [bench_patches(), mask_patches(), why_patches(), head_patches(), old_heads()];
-    parts.into_iter().flatten().collect()
+    [bench_patches(), mask_patches(), why_patches()].into_iter().flatten().collect()
 }
 
 /// Of the region N N N EA000000, N N N N.
@@ -228,55 +188,6 @@ fn why_patches() -> Vec<Row<Call>> {
         bring(&[N, N, N, 0xE125_BE70], no_class(Unlisted, 131_100)),
         patch(&[0; 8], 4, &[0xEF00_0000, N, N, N], &NOPS, Ok(vec![0; 8])),
         patch(&[1; 8], 4, &NOPS, &[!0; 4], Err(Outcome::refused(DISAGREEMENT))),
-    ]
-}
-
-/// Request 9: a word turned into a head, and heads that nobody lands on.
-fn head_patches() -> Vec<Row<Call>> {
-    let to_head = |ledger, says| patch(ledger, 4, &NOPS, &LITERALS, says);
-    let both = |old: [[u32; 4]; 2], new: [[u32; 4]; 2], ledger, says| {
-        patch(ledger, 0, &old.concat(), &new.concat(), says)
-    };
-    let beside = |new, says| patch(&HEADED, 0, &NOPS, new, says);
-    let looping = [N, 0xEAFF_FFFD, N, N];
-    let looped = [0xE125_BE70, 0xEAFF_FFFD, N, N];
-    vec![
-        to_head(&LANDED, refusal(14, 131_088)),
-        both([ONWARD, NOPS], [NOPS, LITERALS], &LANDED, Ok(HEADED.to_vec())),
-        both([ONWARD, NOPS], [ONWARD, LITERALS], &LANDED, refusal(11, 131_084)),
-        patch(&LANDED, 0, &ONWARD, &NOPS, Ok(vec![0; 8])),
-        to_head(&[0; 8], Ok(HEADED.to_vec())),
-        to_head(&[0, 0, 0, 0, 0, 4, 0, 0], refusal(14, 131_092)),
-        to_head(&[0, 0, 0, 0, 4, 4, 0, 0], refusal(14, 131_088)),
-        to_head(&[0, 0, 0, 4, 0, 0, 0, 0], Ok(vec![0, 0, 0, 4, 3, 2, 2, 2])),
-        // The branch turns into data; then it is one of two.
-        patch(&LANDED, 4, &looping, &looped, Ok(HEADED.to_vec())),
-        patch(&[0, 0, 0, 0, 8, 0, 0, 0], 4, &looping, &looped, refusal(14, 131_088)),
-        beside(&ONWARD, refusal(11, 131_084)),
-        beside(&[N, N, 0xEAFF_FFFF, N], Ok(vec![0, 0, 0, 4, 3, 2, 2, 2])),
-        beside(&[N, N, N, 0xEAFF_BFFB], Ok(HEADED.to_vec())),
-        patch(&HEADED, 4, &LITERALS, &LITERALS, Ok(HEADED.to_vec())),
-        patch(&HEADED, 4, &LITERALS, &NOPS, Ok(vec![0; 8])),
-        both([NOPS, LITERALS], [ONWARD, NOPS], &HEADED, Ok(LANDED.to_vec())),
-        both([NOPS, LITERALS], [ONWARD, LITERALS], &HEADED, refusal(11, 131_084)),
-    ]
-}
-
-/// Request 9: with a ledger that counts a branch onto a head, or two.
-fn old_heads() -> Vec<Row<Call>> {
-    let [one, two] = [1, 2].map(|count| [0, 0, 0, 0, 4 * count + 3, 2, 2, 2]);
-    let (old, gone) = ([ONWARD, LITERALS].concat(), [NOPS, LITERALS].concat());
-    vec![
-        patch(&one, 4, &LITERALS, &LITERALS, refusal(14, 131_088)),
-        patch(&one, 4, &LITERALS, &NOPS, Ok(LANDED.to_vec())),
-        patch(&one, 0, &NOPS, &NOPS, Ok(one.to_vec())),
-        patch(&one, 0, &ONWARD, &ONWARD, refusal(11, 131_084)),
-        patch(&one, 0, &ONWARD, &NOPS, Ok(HEADED.to_vec())),
-        patch(&two, 0, &ONWARD, &NOPS, Ok(one.to_vec())),
-        patch(&one, 0, &old, &gone, Ok(HEADED.to_vec())),
-        patch(&two, 0, &old, &gone, refusal(14, 131_088)),
-        patch(&one, 0, &old, &old, refusal(11, 131_084)),
-        patch(&HEADED, 0, &ONWARD, &NOPS, Err(Outcome::refused(DISAGREEMENT))),
     ]
 }
 

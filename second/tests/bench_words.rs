@@ -1,5 +1,5 @@
 //! Every statement of document 01's "Words from the bench", and the words given
-//! for requests 1, 3, 6 and 9 of document 02.
+//! for requests 1, 3 and 6 of document 02.
 
 mod common;
 

@@ -196,25 +196,9 @@ whys =
     ∷ patches (0 ∷ 0 ∷ 0 ∷ 0 ∷ 0 ∷ 4 ∷ 0 ∷ 0 ∷ []) 16 (N ∷ N ∷ N ∷ N ∷ []) (0xE3C0_0103 ∷ 0xE580_1000 ∷ N ∷ 0xEF00_0000 ∷ []) (no_class SystemCall 131100) (0 ∷ 0 ∷ 0 ∷ 0 ∷ 0 ∷ 4 ∷ 0 ∷ 0 ∷ [])
     ∷ []
 
--- direct branches and heads: the request's words, from behind the head and from before it; a trampoline, and a register branch, beside a
--- head; then ledgers that count a branch onto a head, as no check writes them now
-abbrev pub headed : List Row
-headed =
-    checks true (0xE125_BE70 ∷ 0xFFFF_FFFF ∷ 0xFFFF_FFFF ∷ 0xFFFF_FFFF ∷ 0xEAFF_FFFA ∷ N ∷ N ∷ N ∷ []) (refused_at 11 131088) (99 ∷ 99 ∷ 99 ∷ 99 ∷ kept)
-    ∷ checks true (N ∷ N ∷ N ∷ 0xEAFF_FFFF ∷ 0xE125_BE70 ∷ 0xFFFF_FFFF ∷ 0xFFFF_FFFF ∷ 0xFFFF_FFFF ∷ []) (refused_at 11 131084) (99 ∷ 99 ∷ 99 ∷ 99 ∷ kept)
-    ∷ checks true (N ∷ N ∷ N ∷ 0xEAFF_FFFF ∷ N ∷ N ∷ N ∷ N ∷ []) accepted (0 ∷ 0 ∷ 0 ∷ 0 ∷ 4 ∷ 0 ∷ 0 ∷ 0 ∷ [])
-    ∷ checks true (0xE125_BE70 ∷ 0xFFFF_FFFF ∷ 0xFFFF_FFFF ∷ 0xFFFF_FFFF ∷ N ∷ N ∷ N ∷ 0xEAFF_BFF7 ∷ []) accepted (3 ∷ 2 ∷ 2 ∷ 2 ∷ 0 ∷ 0 ∷ 0 ∷ 0 ∷ [])
-    ∷ checks true (0xE125_BE70 ∷ 0xFFFF_FFFF ∷ 0xFFFF_FFFF ∷ 0xFFFF_FFFF ∷ 0xE3C0_013F ∷ 0xE12F_FF10 ∷ N ∷ N ∷ []) accepted (3 ∷ 2 ∷ 2 ∷ 2 ∷ 0 ∷ 1 ∷ 0 ∷ 0 ∷ [])
-    ∷ patches (0 ∷ 0 ∷ 0 ∷ 0 ∷ 4 ∷ 0 ∷ 0 ∷ 0 ∷ []) 16 (N ∷ N ∷ N ∷ N ∷ []) (0xE125_BE70 ∷ N ∷ N ∷ N ∷ []) (refused_at 14 131088) (0 ∷ 0 ∷ 0 ∷ 0 ∷ 4 ∷ 0 ∷ 0 ∷ 0 ∷ [])
-    ∷ patches (0 ∷ 0 ∷ 0 ∷ 0 ∷ 4 ∷ 0 ∷ 0 ∷ 0 ∷ []) 0 (N ∷ N ∷ N ∷ 0xEAFF_FFFF ∷ N ∷ N ∷ N ∷ N ∷ []) (N ∷ N ∷ N ∷ N ∷ 0xE125_BE70 ∷ N ∷ N ∷ N ∷ []) accepted (0 ∷ 0 ∷ 0 ∷ 0 ∷ 3 ∷ 2 ∷ 2 ∷ 2 ∷ [])
-    ∷ patches (3 ∷ 2 ∷ 2 ∷ 2 ∷ 0 ∷ 0 ∷ 0 ∷ 0 ∷ []) 16 (N ∷ N ∷ N ∷ N ∷ []) (0xEAFF_FFFA ∷ N ∷ N ∷ N ∷ []) (refused_at 11 131088) (3 ∷ 2 ∷ 2 ∷ 2 ∷ 0 ∷ 0 ∷ 0 ∷ 0 ∷ [])
-    ∷ patches (7 ∷ 2 ∷ 2 ∷ 2 ∷ 0 ∷ 0 ∷ 0 ∷ 0 ∷ []) 0 (0xE125_BE70 ∷ N ∷ N ∷ N ∷ []) (0xE125_BE70 ∷ N ∷ N ∷ N ∷ []) (refused_at 14 131072) (7 ∷ 2 ∷ 2 ∷ 2 ∷ 0 ∷ 0 ∷ 0 ∷ 0 ∷ [])
-    ∷ patches (7 ∷ 2 ∷ 2 ∷ 2 ∷ 0 ∷ 0 ∷ 0 ∷ 0 ∷ []) 16 (0xEAFF_FFFA ∷ N ∷ N ∷ N ∷ []) (N ∷ N ∷ N ∷ N ∷ []) accepted (3 ∷ 2 ∷ 2 ∷ 2 ∷ 0 ∷ 0 ∷ 0 ∷ 0 ∷ [])
-    ∷ []
-
-words : (map computed marked ≡ map given marked) × (map computed more ≡ map given more) × (map computed transfers ≡ map given transfers) × (map computed wider ≡ map given wider) × (map computed whys ≡ map given whys) × (map computed headed ≡ map given headed)
+words : (map computed marked ≡ map given marked) × (map computed more ≡ map given more) × (map computed transfers ≡ map given transfers) × (map computed wider ≡ map given wider) × (map computed whys ≡ map given whys)
 unfolding head_word head_reading literal_reading readings_of role_alone role_after roles_of rotated value_of immediate_of cleared_bits is_data_mask is_branch_mask tested_bits is_test can_be_guarded mask_guards test_guards branch_guards closes is_pair behind signed_step target_of literal_of operand_names names base_of branch_register writes_sp keeps_flags takes_sp is_call in_no_class is_compare is_move is_data operand_of data_fields is_half_move is_nop is_multiply multiply_fields is_any_access is_literal_load is_access access_fields is_branch is_register_branch why_of kind_of reading_of sandbox_end code_limit layout_holds length_holds rule4 rule5 rule6 wants_guard rule7 rule8 rule9 literal_holds rule10 word_at_address landing_of in_trampolines landable rule11 rules_of lowest_from fault_of code_fault words_verdict check_verdict entry_of ledger_of sum first_from list_from list_of word_at bundle_words bundle_at reading_at before_at next_at role_at target_at landing_at landings target_role fault_at role_from standing_fault all shape_holds counts_hold roles_agree old_counted count_less new_fit stranded_at agrees stranded_verdict new_words_verdict bundles_verdict patch_verdict moved_entry moved_ledger ledger_after
-words = (refl, refl, refl, refl, refl, refl)
+words = (refl, refl, refl, refl, refl)
 
 pub bench_words : map computed marked ≡ map given marked
 bench_words = words.0
@@ -230,6 +214,3 @@ wider_words = words.3
 
 pub why_words : map computed whys ≡ map given whys
 why_words = words.4
-
-pub head_words : map computed headed ≡ map given headed
-head_words = words.5

@@ -1,5 +1,5 @@
-// The paper's words from the bench, then those of multiple transfers, halfwords, wider masks, whys and
-// heads, run through the calls and, row by row, printed: what a call answers, and the ledger where it accepts.
+// The paper's words from the bench, then those of multiple transfers, halfwords, wider masks and whys,
+// run through the calls and, row by row, printed: what a call answers, and the ledger where it accepts.
 // The set that the paper marks and the words of the requests are proved besides, as tables over the
 // definitions (proofs/Table.antt).
 use checker::check::check;
@@ -10,8 +10,6 @@ use rules::outcome::{Outcome, Reason, address, carries_address, number, why};
 
 // The nop, as the paper has it.
 const N: u32 = 0xE320_F000;
-// The literal head.
-const HEAD: u32 = 0xE125_BE70;
 
 fn layout(test_pairs: bool) -> Layout {
     Layout {
@@ -97,13 +95,11 @@ fn bundle(a: u32, b: u32, c: u32, d: u32) {
     one(a, b, c, d, true);
 }
 
-fn region(a: u32, b: u32, c: u32, d: u32, e: u32, f: u32, g: u32, h: u32) -> [u8; 32] {
-    with_bundle(with_bundle([0u8; 32], 0, a, b, c, d), 16, e, f, g, h)
-}
-
-// What a call answers on two bundles, and their ledger where it accepts.
-fn print_two(outcome: Outcome, ledger: [u32; 8]) {
-    match outcome {
+// Two bundles, checked: d ends the first, e and f begin the second, and the rest are nops.
+fn two(d: u32, e: u32, f: u32) {
+    let code = with_bundle(with_bundle([0u8; 32], 0, N, N, N, d), 16, e, f, N, N);
+    let mut ledger = [0u32; 8];
+    match check(layout(true), &code, &mut ledger) {
         Outcome::Accepted => {
             io::write_all(STDOUT_FILENO, b"accepted,");
             print_entries(ledger[0], ledger[1], ledger[2], ledger[3]);
@@ -112,13 +108,6 @@ fn print_two(outcome: Outcome, ledger: [u32; 8]) {
         }
         Outcome::Refused(reason) => print_reason(reason),
     }
-}
-
-// Two bundles, checked.
-fn two(code: [u8; 32]) {
-    let mut ledger = [0u32; 8];
-    let outcome = check(layout(true), &code, &mut ledger);
-    print_two(outcome, ledger);
 }
 
 fn print_length(outcome: Outcome) {
@@ -151,7 +140,7 @@ fn masks() {
     bundle(N, N, N, N);
     bundle(0xE3C0_0103, 0xE580_1000, N, N);
     bundle(0xE3C0_020C, 0xE580_1000, N, N);
-    two(region(N, N, N, 0xE3C0_0103, 0xE580_1000, N, N, N));
+    two(0xE3C0_0103, 0xE580_1000, N);
     bundle(0xE310_0103, 0x0580_1000, N, N);
     one(0xE310_0103, 0x0580_1000, N, N, false);
     bundle(0x0310_0103, 0x0580_1000, N, N);
@@ -167,8 +156,8 @@ fn branches() {
 }
 
 fn heads() {
-    bundle(HEAD, 0xFFFF_FFFF, 0xFFFF_FFFF, 0xFFFF_FFFF);
-    bundle(N, HEAD, N, N);
+    bundle(0xE125_BE70, 0xFFFF_FFFF, 0xFFFF_FFFF, 0xFFFF_FFFF);
+    bundle(N, 0xE125_BE70, N, N);
     bundle(0xE1A0_D000, 0xE3CD_D103, N, N);
     bundle(0xE1B0_D000, 0xE3CD_D103, N, N);
     bundle(0xE00F_0291, N, N, N);
@@ -181,7 +170,7 @@ fn literals() {
     bundle(0xE59F_0004, N, N, N);
     bundle(0xE59F_0008, N, N, N);
     bundle(0xE59F_0006, N, N, N);
-    two(region(N, N, N, 0xEA00_0000, N, N, N, N));
+    two(0xEA00_0000, N, N);
 }
 
 fn multiple_transfers() {
@@ -236,36 +225,24 @@ fn whys() {
     bundle(0xF780_1002, N, N, N);
     bundle(0xE780_1012, N, N, N);
     bundle(0xEE00_0000, N, N, N);
-    bundle(N, N, HEAD, N);
-    bundle(N, N, N, HEAD);
+    bundle(N, N, 0xE125_BE70, N);
+    bundle(N, N, N, 0xE125_BE70);
 }
 
-// Direct branches to a head, from behind it and from before it, and to a nop in its place; then, beside a
-// head, one to a trampoline and a register branch.
-fn to_heads() {
-    let data = 0xFFFF_FFFF;
-    two(region(HEAD, data, data, data, 0xEAFF_FFFA, N, N, N));
-    two(region(N, N, N, 0xEAFF_FFFF, HEAD, data, data, data));
-    two(region(N, N, N, 0xEAFF_FFFF, N, N, N, N));
-    two(region(HEAD, data, data, data, N, N, N, 0xEAFF_BFF7));
-    two(region(HEAD, data, data, data, 0xE3C0_013F, 0xE12F_FF10, N, N));
-}
-
-// Of two bundles one patched; the ledger afterwards.
+// One bundle patched; the ledger afterwards.
 fn patched(ledger: [u32; 8], offset: usize, old: [u8; 16], new: [u8; 16]) -> [u32; 8] {
     let mut after = ledger;
     let mut bytes = old;
-    let outcome = patch(layout(true), &mut after, offset, &mut bytes, &new);
-    print_two(outcome, after);
+    match patch(layout(true), &mut after, offset, &mut bytes, &new) {
+        Outcome::Accepted => {
+            io::write_all(STDOUT_FILENO, b"accepted,");
+            print_entries(after[0], after[1], after[2], after[3]);
+            print_entries(after[4], after[5], after[6], after[7]);
+            io::write_all(STDOUT_FILENO, b"\n");
+        }
+        Outcome::Refused(reason) => print_reason(reason),
+    }
     after
-}
-
-// Both at once.
-fn both_patched(ledger: [u32; 8], old: [u8; 32], new: [u8; 32]) {
-    let mut after = ledger;
-    let mut bytes = old;
-    let outcome = patch(layout(true), &mut after, 0, &mut bytes, &new);
-    print_two(outcome, after);
 }
 
 // The region that `literals` ends with: its second bundle is landed on, until the first is patched.
@@ -295,23 +272,6 @@ fn patched_whys() {
     patched([0, 0, 0, 0, 0, 4, 0, 0], 16, nops, beside);
 }
 
-// A bundle that is landed on turned into a head, alone and with the branch; a branch to a head patched in;
-// and ledgers that count one.
-fn patched_heads() {
-    let nops = first_half(with_bundle([0u8; 32], 0, N, N, N, N));
-    let head = first_half(with_bundle([0u8; 32], 0, HEAD, N, N, N));
-    let back = first_half(with_bundle([0u8; 32], 0, 0xEAFF_FFFA, N, N, N));
-    let kept = patched([0, 0, 0, 0, 4, 0, 0, 0], 16, nops, head);
-    both_patched(
-        kept,
-        region(N, N, N, 0xEAFF_FFFF, N, N, N, N),
-        region(N, N, N, N, HEAD, N, N, N),
-    );
-    patched([3, 2, 2, 2, 0, 0, 0, 0], 16, nops, back);
-    patched([7, 2, 2, 2, 0, 0, 0, 0], 0, head, head);
-    patched([7, 2, 2, 2, 0, 0, 0, 0], 16, back, nops);
-}
-
 fn main() {
     masks();
     branches();
@@ -321,11 +281,9 @@ fn main() {
     halfwords();
     wider_masks();
     whys();
-    to_heads();
     patches();
     old_ledger();
     patched_whys();
-    patched_heads();
     length_0();
     length_15();
     length_65552();

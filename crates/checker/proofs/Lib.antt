@@ -14,7 +14,6 @@ pub mod Checks
 pub mod Demands
 pub mod Whys
 pub mod Accepted
-pub mod Landed
 pub mod Refresh
 pub mod Fresh
 pub mod Sequences

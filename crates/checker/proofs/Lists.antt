@@ -23,11 +23,6 @@ unfolding sum
 sum_same f g zero h = refl
 sum_same f g (suc n) h = ap₂ ◌+◌ (sum_same f g n (λ k a. h k (omega arith))) (h n (le_refl (suc n)))
 
-pub sum_none : (f : ℕ → ℕ) (n : ℕ) → ((k : ℕ) → k < n → f k ≡ 0) → sum f n ≡ 0
-unfolding sum
-sum_none f zero h = refl
-sum_none f (suc n) h = ap₂ ◌+◌ (sum_none f n (λ k a. h k (omega arith))) (h n (le_refl (suc n)))
-
 -- each at most 1, so at most as many as there are
 pub sum_most : (f : ℕ → ℕ) (n : ℕ) → ((k : ℕ) → f k ≤ 1) → sum f n ≤ n
 unfolding sum

@@ -44,7 +44,7 @@ module _ (l : Layout) (ledger : List ℕ) where
   unfoldable pub new_fit : List ℕ → List ℕ → ℕ → Bool
   new_fit old new first = all (λ j. leb (count_less old first j + branches_to new first j) (length ledger)) (length ledger)
 
--- 14: a word is inner, data or a head by the new bundles, and its count less the old bundles' branches isn't zero
+-- 14: a word is inner or data by the new bundles, and its count less the old bundles' branches isn't zero
 unfoldable pub stranded_at : (ℕ → ℕ) → List ℕ → ℕ → ℕ → ℕ
 stranded_at counts new first k = cond (not (landable (role_at new k)) && not (eqb (counts (first + k)) 0)) 14 0
 

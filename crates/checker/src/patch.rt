@@ -66,8 +66,8 @@ fn roles_agree(ledger: &[u32], old: &[u8], first: usize) -> bool
     true
 }
 
-// The first new word that branches land on and that is inner, data or a head, or the number of new
-// words. The ledger's counts are those without the old bundles' branches.
+// The first new word that branches land on and that is inner or data, or the number of new words. The
+// ledger's counts are those without the old bundles' branches.
 fn first_stranded(ledger: &[u32], new: &[u8], first: usize) -> usize
     requires { (length new.now % 16 ≡ 0) × (first + length new.now / 4 ≤ length ledger.now) }
     ensures { result ≡ first_from (stranded_at (count_at ledger.now) new.now first) 0 (length new.now / 4) }

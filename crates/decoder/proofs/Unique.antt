@@ -11,7 +11,7 @@ use Rattle.decoder.proofs.bundle.readings.Reads as readings
 use Rattle.decoder.proofs.bundle.reading.Kinds as reading-kinds
 use Rattle.decoder.proofs.bundle.reading.Reads as reading
 use Rattle.decoder.proofs.place.direct_target.Kinds as direct-target-kinds
-use Rattle.decoder.proofs.place.direct_target.Reads as direct_target
+use Rattle.decoder.proofs.place.direct_target.Reads as direct-target
 use Rattle.decoder.proofs.place.literal.Kinds as literal-kinds
 use Rattle.decoder.proofs.place.literal.Reads as literal
 use Rattle.decoder.proofs.immediate.value.Kinds as value-kinds
@@ -50,7 +50,7 @@ readings_unique a u v x y p q = p ∙ sym q
 pub reading_unique : Unique reading-kinds.ps reading-kinds.r reading.Post
 reading_unique a u v x y p q = p ∙ sym q
 
-pub direct_target_unique : Unique direct-target-kinds.ps direct-target-kinds.r direct_target.Post
+pub direct_target_unique : Unique direct-target-kinds.ps direct-target-kinds.r direct-target.Post
 direct_target_unique a u v x y p q = p ∙ sym q
 
 pub literal_unique : Unique literal-kinds.ps literal-kinds.r literal.Post

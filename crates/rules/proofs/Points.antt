@@ -84,15 +84,13 @@ pub record Points : Type 0 where
   -- rule::rule11
   pub trampoline_off_16 : rule11 paper 4 (At 65540) 0 ≡ true
   pub lands_on_inner : rule11 paper 4 (At 131076) 1 ≡ true
-  pub lands_on_a_head : rule11 paper 4 (At 131072) 3 ≡ true
-  pub lands_on_a_plain_word : rule11 paper 4 (At 131072) 0 ≡ false
+  pub lands_on_a_head : rule11 paper 4 (At 131072) 3 ≡ false
   -- rule::landing
   pub negative_lands_nowhere : landing_of paper 4 Below ≡ 4
   pub past_the_end_lands_nowhere : landing_of paper 4 (At 131088) ≡ 4
   -- rule::landable
-  pub plain_landable : landable 0 ≡ true
   pub inner_not_landable : landable 1 ≡ false
-  pub head_not_landable : landable 3 ≡ false
+  pub head_landable : landable 3 ≡ true
   -- rule::rules
   pub breaks_8_and_9 : rules_alone 0xE12F_FF30 0 ≡ false ∷ false ∷ false ∷ false ∷ true ∷ true ∷ false ∷ false ∷ []
   pub breaks_9_alone : rules_alone 0xEBFF_FFFE 2 ≡ false ∷ false ∷ false ∷ false ∷ false ∷ true ∷ false ∷ false ∷ []

@@ -10,7 +10,7 @@ use Rattle.pairs.specs.Mask.{is_data_mask}
 use Rattle.decoder.specs.Place.{target_of, literal_of}
 use Rattle.decoder.specs.Question.{names, base_of, branch_register, writes_sp, takes_sp, is_call, in_no_class}
 use Rattle.pairs.specs.Pair.{mask_guards, test_guards, branch_guards, closes}
-use Rattle.pairs.specs.Role.{plain}
+use Rattle.pairs.specs.Role.{plain, head}
 use Rattle.rules.specs.declared.layout.Layout.{Layout}
 
 -- 4: the word is in no class
@@ -67,11 +67,11 @@ landing_of l n (At a) = word_at_address l n a
 unfoldable pub in_trampolines : Layout → ℕ → Bool
 in_trampolines l a = leb l.trampoline_first a && ltb a l.trampoline_end && eqb (a % 16) 0
 
--- the role that a direct branch may land on: plain
+-- the roles that a direct branch may land on: plain or head
 unfoldable pub landable : ℕ → Bool
-landable role = eqb role plain
+landable role = eqb role plain || eqb role head
 
--- 11: a direct target is neither a plain word of the code nor a multiple of 16 in the trampolines
+-- 11: a direct target is neither a plain or head word of the code nor a multiple of 16 in the trampolines
 unfoldable pub rule11 : Layout → ℕ → Place → ℕ → Bool
 rule11 l n Absent role = false
 rule11 l n Below role = true

@@ -33,7 +33,7 @@ pub enum Reason {
     PatchShape,
     // 13: ledger and old bundles disagree.
     Disagreement,
-    // 14: a word that branches land on would be inner, data or a head.
+    // 14: a word that branches land on would be inner or data.
     Stranded { at: u32 },
 }
 

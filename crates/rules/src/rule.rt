@@ -12,7 +12,7 @@ use decoder::question::{
 use decoder::reading::{Kind, Reading};
 use pairs::mask::is_data_mask;
 use pairs::pair::{branch_guards, closes, mask_guards, test_guards};
-use pairs::role::PLAIN;
+use pairs::role::{HEAD, PLAIN};
 
 // 4: the word is in no class.
 pub fn rule4(kind: Kind) -> bool
@@ -131,14 +131,15 @@ fn in_trampolines(layout: Layout, a: u64) -> bool
     (layout.trampoline_first as u64 <= a) & (a < layout.trampoline_end as u64) & (a % 16 == 0)
 }
 
-// The role that a direct branch may land on.
+// The roles that a direct branch may land on.
 pub fn landable(role: u32) -> bool
     ensures { result ≡ «can-land» role }
 {
-    role == PLAIN
+    (role == PLAIN) | (role == HEAD)
 }
 
-// 11: a direct target is neither a plain word of the code nor a multiple of 16 in the trampolines.
+// 11: a direct target is neither a plain or head word of the code nor a multiple of 16 in the
+// trampolines.
 pub fn rule11(layout: Layout, words: usize, place: Place, role: u32) -> bool
     ensures { result ≡ «r11» layout words place role }
 {

@@ -1,24 +1,19 @@
 //! The families of patches: honest sequences, and calls with damaged parts.
 
-use super::heads::visit_about;
 use super::pairs::{two_masks, two_pairs};
 use super::{odd_bundle, places::damage, web, Family};
-use crate::check::write;
-use crate::layout::Region;
 use crate::make::{branch, bytes, padded, words, ALWAYS, HEAD, NOP};
-use crate::regions::{self, address, edit, head_bundle, part, region};
+use crate::regions::{self, address, edit, part, region};
 use crate::rng::Rng;
-use crate::survey::Survey;
 use crate::{check, patch, Layout, Outcome, CODE_LIMIT};
 use std::ops::Range;
 
-pub(super) const ALL: [Family<Vec<Call>>; 6] = [
+pub(super) const ALL: [Family<Vec<Call>>; 5] = [
     Family { name: "sequences", share: 5, make: sequence },
     Family { name: "damaged", share: 3, make: |rng| vec![damaged(rng)] },
     Family { name: "odd", share: 1, make: |rng| vec![odd(rng)] },
     Family { name: "counts", share: 1, make: |rng| vec![counts(rng)] },
     Family { name: "outdated", share: 2, make: |rng| vec![outdated(rng)] },
-    Family { name: "heads", share: 2, make: |rng| vec![heads(rng)] },
 ];
 
 /// Everything a patch call is handed.
@@ -222,41 +217,9 @@ fn outdated(rng: &mut Rng) -> Call {
     let layout = regions::layout(rng, 16);
     let make = rng.pick(&[two_masks, two_pairs]);
     let old = padded(&make(rng));
-    let mut ledger = borne_out(&layout, &old);
+    let mut ledger: Vec<u32> = regions::roles(&old).into_iter().map(|role| role as u32).collect();
     if rng.once_in(2) {
         ledger[1 + rng.below(2)] ^= 1;
     }
     Call::new(layout, &ledger, 0, &old, &odd_bundle(rng))
-}
-
-/// A bundle with branches to it from inside the patch and outside, and with a head
-/// before the patch, after it, always or never. The ledger counts the branches onto
-/// a head as well, which none has since request 9.
-fn heads(rng: &mut Rng) -> Call {
-    let bundles = 1 + rng.below(4);
-    let layout = regions::layout(rng, 16 * bundles);
-    let part = part(rng, 4 * bundles);
-    let first = 4 * rng.below(bundles);
-    let mut visited = || {
-        let mut code = vec![NOP; 4 * bundles];
-        if rng.once_in(2) {
-            code[first..first + 4].copy_from_slice(&head_bundle(rng));
-        }
-        visit_about(rng, &layout, &mut code, first);
-        code
-    };
-    let (code, mut edited) = (visited(), visited());
-    edited[..part.start].copy_from_slice(&code[..part.start]);
-    edited[part.end..].copy_from_slice(&code[part.end..]);
-    let ledger = borne_out(&layout, &code);
-    let call = Call::new(layout, &ledger, part.start, &code[part.clone()], &edited[part]);
-    Call { edited: fresh(&layout, &code).map(|_| edited), ..call }
-}
-
-/// The ledger of a region, whatever rule that breaks.
-fn borne_out(layout: &Layout, code: &[u32]) -> Vec<u32> {
-    let region = Region::new(layout, 4 * code.len()).expect("a sound layout and length");
-    let mut ledger = vec![0; code.len()];
-    write(&Survey::of(&region, 0, &bytes(code)), &mut ledger);
-    ledger
 }

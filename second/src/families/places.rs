@@ -2,12 +2,11 @@
 
 use super::{edge_condition, edge_register, layout, nops, visit, web, Case};
 use crate::make::*;
-use crate::regions::{self, address, aim_at_head, region, spoil};
+use crate::regions::{self, address, region, spoil};
 use crate::rng::Rng;
 use crate::{Layout, CODE_LIMIT, SANDBOX_END};
 
-/// Dense branches, mostly sound, some aimed anywhere or at a head, or calling out
-/// of slot.
+/// Dense branches, mostly sound, some aimed anywhere or calling out of slot.
 pub fn branches(rng: &mut Rng) -> Case {
     let bundles = 1 + rng.below(8);
     let layout = regions::layout(rng, 16 * bundles);
@@ -17,10 +16,6 @@ pub fn branches(rng: &mut Rng) -> Case {
         let own = address(&layout, place) as u32;
         let call = rng.once_in(8) || place % 4 == 3;
         words[place] = branch(edge_condition(rng), call, own, target(rng, &layout, words.len()));
-    }
-    if rng.once_in(4) {
-        let all = 0..words.len();
-        aim_at_head(rng, &layout, &mut words, all);
     }
     Case::new(layout, &words)
 }

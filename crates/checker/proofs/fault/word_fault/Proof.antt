@@ -30,7 +30,7 @@ returns c =
     let readings = s.requires in
     c.fault.ensures
     ∙ stands a.layout a.ledger.now a.bytes.now a.first a.k readings.2 readings.3 readings.4
-    c.before.before.direct_target.ensures c.before.target-role.ensures
+    c.before.before.direct-target.ensures c.before.target-role.ensures
 
 pub word-fault-spec : {M : Type 1} → statement M
 word-fault-spec =

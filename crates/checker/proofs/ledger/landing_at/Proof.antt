@@ -16,7 +16,7 @@ returns c =
     let a = c.before.before.before.before.before.args in
     c.landing.ensures
     ∙ ap (landing_of a.layout a.words)
-    (c.before.direct_target.ensures ∙ ap (λ (r : Reading). target_of r.kind (address_of a.layout (a.first + a.k))) c.before.before.reading_at_lem.ensures)
+    (c.before.direct-target.ensures ∙ ap (λ (r : Reading). target_of r.kind (address_of a.layout (a.first + a.k))) c.before.before.reading_at_lem.ensures)
 
 pub landing-at-spec : {M : Type 1} → statement M
 landing-at-spec =
