@@ -56,6 +56,7 @@ fn is_multiple_transfer(word: u32) -> bool
         & !((word / 0x20_0000 % 2 == 1) & list_names(word / 0x1_0000 % 16, list))
 }
 
+#[tactic(auto, unfolding(crate::specs::Word::is_any_access))]
 pub(crate) fn is_any_access(word: u32) -> bool
     ensures { result ≡ is_any_access word }
 {
@@ -69,6 +70,7 @@ pub(crate) fn is_any_access(word: u32) -> bool
     is_halfword(word)
 }
 
+#[tactic(auto, unfolding(crate::specs::Word::is_literal_load))]
 fn is_literal_load(word: u32) -> bool
     ensures { result ≡ is_literal_load word }
 {

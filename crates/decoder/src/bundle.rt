@@ -8,6 +8,7 @@ use crate::word::read;
 // The literal head's word.
 const HEAD_WORD: u32 = 0xE125_BE70;
 
+#[tactic(auto, unfolding(crate::specs::Bundle::head_reading))]
 fn read_head(word: u32) -> Reading
     ensures { result ≡ head_reading word }
 {
@@ -17,6 +18,7 @@ fn read_head(word: u32) -> Reading
     }
 }
 
+#[tactic(auto, unfolding(crate::specs::Bundle::literal_reading))]
 fn read_literal(word: u32) -> Reading
     ensures { result ≡ literal_reading word }
 {
@@ -30,6 +32,7 @@ fn read_literal(word: u32) -> Reading
 
 // The reading of one slot, from the bundle's first word and its own. A head in slot 0 makes the other
 // three data.
+#[tactic(auto, unfolding(crate::specs::Bundle::slot_reading, crate::specs::Bundle::head_word))]
 pub fn reading(first: u32, word: u32, slot: usize) -> Reading
     ensures { result ≡ slot_reading first word slot }
 {
@@ -42,6 +45,7 @@ pub fn reading(first: u32, word: u32, slot: usize) -> Reading
     read(word)
 }
 
+#[tactic(auto, unfolding(crate::specs::Bundle::readings_of, crate::specs::Bundle::slot_reading))]
 pub fn readings(words: [u32; 4]) -> [Reading; 4]
     ensures { result ≡ readings_of words }
 {

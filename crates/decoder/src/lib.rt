@@ -1,5 +1,7 @@
 // The decoder: what a word, and a bundle of four, says. It stands alone below the checker and knows
 // no layout, no region and no ledger.
+#![tactic(auto)]
+
 mod access;
 pub mod bundle;
 pub mod immediate;

@@ -4,7 +4,7 @@ ghost use Rattle.decoder.specs.Place.{behind, signed_step, target_of, literal_of
 
 use crate::reading::{Kind, Reading};
 
-#[derive(Drop)]
+#[derive(Clone, Copy)]
 pub enum Place {
     // The word has none.
     Absent,
@@ -13,6 +13,7 @@ pub enum Place {
     At(u64),
 }
 
+#[tactic(auto, unfolding(crate::specs::Place::behind))]
 fn back_from(from: u64, back: u64) -> Place
     ensures { result ≡ behind from back }
 {
@@ -23,6 +24,7 @@ fn back_from(from: u64, back: u64) -> Place
 }
 
 // offset is twenty-four bits, read as a signed number of words.
+#[tactic(auto, unfolding(crate::specs::Place::signed_step))]
 fn signed_step(from: u64, offset: u64) -> Place
     requires { (from < 2 ^ 33) × (offset < 2 ^ 24) }
     ensures { result ≡ signed_step from offset }
@@ -34,6 +36,7 @@ fn signed_step(from: u64, offset: u64) -> Place
 }
 
 // The direct target of a word at an address. A word that is not a branch has none.
+#[tactic(auto, unfolding(crate::specs::Place::target_of))]
 pub fn direct_target(reading: Reading, address: u32) -> Place
     ensures { result ≡ target_of reading.kind address }
 {
@@ -46,6 +49,7 @@ pub fn direct_target(reading: Reading, address: u32) -> Place
 }
 
 // Where a literal load at an address reads.
+#[tactic(auto, unfolding(crate::specs::Place::literal_of))]
 pub fn literal(reading: Reading, address: u32) -> Place
     ensures { result ≡ literal_of reading.kind address }
 {

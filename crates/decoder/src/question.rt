@@ -16,6 +16,7 @@ pub const SP: u32 = 13;
 
 pub const PC: u32 = 15;
 
+#[tactic(auto, unfolding(crate::specs::Question::operand_names))]
 fn operand_names(r: u32, operand: Operand) -> bool
     ensures { result ≡ operand_names r operand }
 {
@@ -80,6 +81,7 @@ fn register_list(moved: Moved) -> u32
 }
 
 // A register field of the word is r, or its list names r; a literal load's base is left out.
+#[tactic(auto, unfolding(crate::specs::Question::names))]
 pub fn names(r: u32, kind: Kind) -> bool
     ensures { result ≡ «names_r» r kind }
 {
@@ -111,6 +113,7 @@ pub fn names(r: u32, kind: Kind) -> bool
 }
 
 // The register that an access goes through, or NO_REGISTER.
+#[tactic(auto, unfolding(crate::specs::Question::base_of))]
 pub fn base(kind: Kind) -> u32
     ensures { result ≡ base_of kind }
 {
@@ -121,6 +124,7 @@ pub fn base(kind: Kind) -> u32
 }
 
 // The register that a register branch goes to, or NO_REGISTER.
+#[tactic(auto, unfolding(crate::specs::Question::branch_register))]
 pub fn branch_register(kind: Kind) -> u32
     ensures { result ≡ branch_register kind }
 {
@@ -131,6 +135,7 @@ pub fn branch_register(kind: Kind) -> u32
 }
 
 // A data word that writes r13.
+#[tactic(auto, unfolding(crate::specs::Question::writes_sp))]
 pub fn writes_sp(kind: Kind) -> bool
     ensures { result ≡ writes_sp kind }
 {
@@ -141,6 +146,7 @@ pub fn writes_sp(kind: Kind) -> bool
 }
 
 // A data word with S = 0.
+#[tactic(auto, unfolding(crate::specs::Question::keeps_flags))]
 pub fn keeps_flags(kind: Kind) -> bool
     ensures { result ≡ keeps_flags kind }
 {
@@ -152,6 +158,7 @@ pub fn keeps_flags(kind: Kind) -> bool
 
 // r13 is written by a load or a half move, or named by a list, also to store, a multiply or a
 // register branch.
+#[tactic(auto, unfolding(crate::specs::Question::takes_sp))]
 pub fn takes_sp(kind: Kind) -> bool
     ensures { result ≡ takes_sp kind }
 {
@@ -177,6 +184,7 @@ pub fn takes_sp(kind: Kind) -> bool
 }
 
 // A branch with bit 24, or blx.
+#[tactic(auto, unfolding(crate::specs::Question::is_call))]
 pub fn is_call(kind: Kind) -> bool
     ensures { result ≡ is_call kind }
 {
@@ -188,6 +196,7 @@ pub fn is_call(kind: Kind) -> bool
 }
 
 // The word is in no class.
+#[tactic(auto, unfolding(crate::specs::Question::in_no_class))]
 pub fn in_no_class(kind: Kind) -> bool
     ensures { result ≡ in_no_class kind }
 {
@@ -210,6 +219,7 @@ pub fn why_number(why: Why) -> u32
 }
 
 // The bytes that a multiple transfer moves, and 0 of every other kind.
+#[tactic(auto, unfolding(crate::specs::Question::transfer_bytes, crate::specs::Question::named_below))]
 pub fn transfer_bytes(kind: Kind) -> u32
     ensures { result ≡ transfer_bytes kind }
 {

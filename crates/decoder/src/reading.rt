@@ -2,7 +2,7 @@
 // word does when it runs, each as the number that stands in the word.
 
 // What a data word works on beside Rn.
-#[derive(Drop)]
+#[derive(Clone, Copy)]
 pub enum Operand {
     // Bits 7..0, rotated right by twice bits 11..8.
     Immediate { rotation: u32, byte: u32 },
@@ -12,7 +12,7 @@ pub enum Operand {
     ShiftedByRs { shift: u32, rs: u32, rm: u32 },
 }
 
-#[derive(Drop)]
+#[derive(Clone, Copy)]
 pub struct DataFields {
     pub operation: u32,
     pub s: u32,
@@ -21,7 +21,7 @@ pub struct DataFields {
     pub operand: Operand,
 }
 
-#[derive(Drop)]
+#[derive(Clone, Copy)]
 pub struct MultiplyFields {
     pub accumulate: u32,
     pub s: u32,
@@ -34,7 +34,7 @@ pub struct MultiplyFields {
 }
 
 // What an access moves.
-#[derive(Drop)]
+#[derive(Clone, Copy)]
 pub enum Moved {
     // A word, or a byte where b is 1.
     Word { b: u32, rt: u32, distance: u32 },
@@ -46,7 +46,7 @@ pub enum Moved {
 
 // What all accesses have, and what is moved. W writes the base back; so does P = 0, but of a list, where
 // P only says whether a step comes before each word or after it.
-#[derive(Drop)]
+#[derive(Clone, Copy)]
 pub struct AccessFields {
     pub p: u32,
     pub u: u32,
@@ -57,7 +57,7 @@ pub struct AccessFields {
 }
 
 // Why a word is in no class: the first of these that holds.
-#[derive(Drop)]
+#[derive(Clone, Copy)]
 pub enum Why {
     // The condition is 15.
     Condition15,
@@ -69,7 +69,7 @@ pub enum Why {
     Unlisted,
 }
 
-#[derive(Drop)]
+#[derive(Clone, Copy)]
 pub enum Kind {
     // The word is in no class.
     NoClass(Why),
@@ -90,7 +90,7 @@ pub enum Kind {
     Literal { low: u32 },
 }
 
-#[derive(Drop)]
+#[derive(Clone, Copy)]
 pub struct Reading {
     pub condition: u32,
     pub kind: Kind,

@@ -10,6 +10,7 @@ use crate::reading::{DataFields, Kind, MultiplyFields, Operand, Reading, Why};
 const NOP: u32 = 0xE320_F000;
 
 // Operations 8 to 11 (tst, teq, cmp, cmn) write no register.
+#[tactic(auto, unfolding(crate::specs::Word::is_compare))]
 pub(crate) fn is_compare(operation: u32) -> bool
     ensures { result ≡ is_compare operation }
 {
@@ -17,12 +18,14 @@ pub(crate) fn is_compare(operation: u32) -> bool
 }
 
 // Operations 13 and 15 (mov, mvn) have no Rn.
+#[tactic(auto, unfolding(crate::specs::Word::is_move))]
 pub(crate) fn is_move(operation: u32) -> bool
     ensures { result ≡ is_move operation }
 {
     (operation == 13) | (operation == 15)
 }
 
+#[tactic(auto, unfolding(crate::specs::Word::is_data))]
 fn is_data(word: u32) -> bool
     ensures { result ≡ is_data word }
 {
@@ -37,6 +40,7 @@ fn is_data(word: u32) -> bool
     shape & compares & moves
 }
 
+#[tactic(auto, unfolding(crate::specs::Word::operand_of))]
 fn operand(word: u32) -> Operand
     ensures { result ≡ operand_of word }
 {
@@ -60,6 +64,7 @@ fn operand(word: u32) -> Operand
     }
 }
 
+#[tactic(auto, unfolding(crate::specs::Word::is_multiply))]
 fn is_multiply(word: u32) -> bool
     ensures { result ≡ is_multiply word }
 {
@@ -69,6 +74,7 @@ fn is_multiply(word: u32) -> bool
 }
 
 // Why a word that no class takes is in none, its condition apart.
+#[tactic(auto, unfolding(crate::specs::Word::why_of))]
 fn why(word: u32) -> Why
     requires { eqb (condition_of word) 15 ≡ false }
     ensures { result ≡ why_of word }
@@ -155,6 +161,7 @@ fn kind(word: u32) -> Kind
 }
 
 // The reading of a word that is no literal head and stands after none.
+#[tactic(auto, unfolding(crate::specs::Word::reading_of))]
 pub fn read(word: u32) -> Reading
     ensures { result ≡ reading_of word }
 {

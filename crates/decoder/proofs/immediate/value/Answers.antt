@@ -1,4 +1,4 @@
--- `immediate::value` meets its contract: to rotate is to exchange what lies above a place and what lies below it, which two shifts do at once.
+-- To rotate is to exchange what lies above a place and what lies below it, which two shifts do at once.
 use Prim.Native.Nat.{ℕ, zero, suc, ◌+◌, ◌-◌, ◌*◌, ◌/◌, ◌%◌, ◌^◌, ◌<◌}
 use mathlib.Core.Path.{◌≡◌, ◌∙◌, sym, ap, ap₂, subst}
 use native.Mathlib.Omega.{arith}
@@ -7,8 +7,7 @@ use lib.Arith.{lt-one}
 use lib.Bits.{bit_or, block_half, block_odd, or_self, or_shifted_r}
 use lib.Pow.{mod-pow-add, pow-add, pow_pos, shl-shr, shr_lt, split}
 use Rattle.decoder.specs.Immediate.{rotated_once, rotated, value_of}
-use Rattle.decoder.proofs.immediate.value.Statement.{statement}
-use Rattle.decoder.proofs.immediate.value.Tie as tie
+use Rattle.decoder.proofs.immediate.value.Goals as goal
 
 -- by one place: the lowest digit of b goes above a
 once : (n j a b : ℕ) → suc n + j ≡ 32 → rotated_once (a * 2 ^ suc n + b) ≡ (a + b % 2 * 2 ^ j) * 2 ^ n + b / 2
@@ -48,9 +47,6 @@ shifts zero x l h = ap₂ bit_or (div-one x) (ap (λ (y : ℕ). y % 2 ^ 32) (mul
 shifts (suc n) x l h =
     ap (λ (j : ℕ). bit_or (x / 2 ^ suc n) (x * 2 ^ j % 2 ^ 32)) (omega arith) ∙ at_once (suc n) (31 - n) x (omega arith) h
 
-returns : tie.Need-returns
+pub returns : goal.returns
 unfolding value_of
 returns c = shifts (2 * (c.args.rotation % 16)) c.args.byte (omega arith) (omega arith)
-
-pub value_spec : {M : Type 1} → statement M
-value_spec = tie.close (tie.spec (λ c. omega arith) (λ c. omega arith) (λ c. omega arith) (λ c. omega arith) returns)
