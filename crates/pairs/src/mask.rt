@@ -25,6 +25,7 @@ fn has_place(value: u32) -> bool
 }
 
 // An immediate's value where the word's other fields are right, and else no bits.
+#[tactic(auto, unfolding(crate::specs::Mask::immediate_of))]
 fn immediate(right: bool, operand: Operand) -> u32
     ensures { result ≡ cond right (immediate_of operand) 0 }
 {
@@ -38,6 +39,7 @@ fn immediate(right: bool, operand: Operand) -> u32
 }
 
 // The bits that an immediate bic into r clears, from any register but r9 and pc; none of another word.
+#[tactic(auto, unfolding(crate::specs::Mask::cleared_bits))]
 fn cleared(r: u32, kind: Kind) -> u32
     ensures { result ≡ cleared_bits r kind }
 {
@@ -54,6 +56,7 @@ fn cleared(r: u32, kind: Kind) -> u32
 }
 
 // The word is a data mask of r.
+#[tactic(auto, unfolding(crate::specs::Mask::is_data_mask))]
 pub fn is_data_mask(r: u32, kind: Kind) -> bool
     ensures { result ≡ is_data_mask r kind }
 {
@@ -61,6 +64,7 @@ pub fn is_data_mask(r: u32, kind: Kind) -> bool
 }
 
 // The word is a branch mask of r.
+#[tactic(auto, unfolding(crate::specs::Mask::is_branch_mask))]
 pub fn is_branch_mask(r: u32, kind: Kind) -> bool
     ensures { result ≡ is_branch_mask r kind }
 {
@@ -69,6 +73,7 @@ pub fn is_branch_mask(r: u32, kind: Kind) -> bool
 }
 
 // The bits that an immediate tst of r asks for; none of another word.
+#[tactic(auto, unfolding(crate::specs::Mask::tested_bits))]
 fn tested(r: u32, kind: Kind) -> u32
     ensures { result ≡ tested_bits r kind }
 {
@@ -81,6 +86,7 @@ fn tested(r: u32, kind: Kind) -> u32
 }
 
 // The word tests at least the bits of r that a data mask clears.
+#[tactic(auto, unfolding(crate::specs::Mask::is_test))]
 pub fn is_test(r: u32, kind: Kind) -> bool
     ensures { result ≡ is_test r kind }
 {

@@ -13,6 +13,7 @@ const ALWAYS: u32 = 14;
 const EQUAL: u32 = 0;
 
 // An access, on another register than r13 and r15.
+#[tactic(auto, unfolding(crate::specs::Pair::can_be_guarded))]
 fn can_be_guarded(access: Kind) -> bool
     ensures { result ≡ can_be_guarded (base_of access) }
 {
@@ -21,6 +22,7 @@ fn can_be_guarded(access: Kind) -> bool
 }
 
 // An access, guarded by a data mask.
+#[tactic(auto, unfolding(crate::specs::Pair::mask_guards))]
 pub fn mask_guards(first: Reading, second: Reading) -> bool
     ensures { result ≡ mask_guards first second }
 {
@@ -33,6 +35,7 @@ pub fn mask_guards(first: Reading, second: Reading) -> bool
 }
 
 // An access, guarded by a test.
+#[tactic(auto, unfolding(crate::specs::Pair::test_guards))]
 pub fn test_guards(first: Reading, second: Reading) -> bool
     ensures { result ≡ test_guards first second }
 {
@@ -45,6 +48,7 @@ pub fn test_guards(first: Reading, second: Reading) -> bool
 }
 
 // A register branch, guarded by a branch mask.
+#[tactic(auto, unfolding(crate::specs::Pair::branch_guards))]
 pub fn branch_guards(first: Reading, second: Reading) -> bool
     ensures { result ≡ branch_guards first second }
 {
@@ -58,6 +62,7 @@ pub fn branch_guards(first: Reading, second: Reading) -> bool
 }
 
 // A write of r13, closed by a data mask of r13.
+#[tactic(auto, unfolding(crate::specs::Pair::closes))]
 pub fn closes(first: Reading, second: Reading) -> bool
     ensures { result ≡ «closes-sp» first second }
 {
@@ -72,6 +77,7 @@ pub fn closes(first: Reading, second: Reading) -> bool
         & (first.condition == second.condition)
 }
 
+#[tactic(auto, unfolding(crate::specs::Pair::is_pair))]
 pub fn is_pair(first: Reading, second: Reading) -> bool
     ensures { result ≡ is_pair first second }
 {

@@ -13,6 +13,7 @@ pub const DATA: u32 = 2;
 
 pub const HEAD: u32 = 3;
 
+#[tactic(auto, unfolding(crate::specs::Role::role_alone))]
 fn role_alone(kind: Kind) -> u32
     ensures { result ≡ role_alone kind }
 {
@@ -24,6 +25,7 @@ fn role_alone(kind: Kind) -> u32
 }
 
 // The role of a word behind another in its bundle.
+#[tactic(auto, unfolding(crate::specs::Role::role_after))]
 pub fn role_after(first: Reading, second: Reading) -> u32
     ensures { result ≡ role_after first second }
 {
@@ -35,6 +37,7 @@ pub fn role_after(first: Reading, second: Reading) -> u32
 }
 
 // Pairs lie in adjacent slots of one bundle, so slot 0 is never inner.
+#[tactic(auto, unfolding(crate::specs::Role::roles_of))]
 pub fn roles(bundle: [Reading; 4]) -> [u32; 4]
     ensures { result ≡ roles_of bundle }
 {
