@@ -14,7 +14,7 @@ use rules::layout::Layout;
 use rules::rule::{fault, landing};
 
 // number is 0 where no word breaks a rule; at is then the number of words.
-#[derive(Drop)]
+#[derive(Clone, Copy)]
 pub(crate) struct Fault {
     pub(crate) at: usize,
     pub(crate) number: u32,

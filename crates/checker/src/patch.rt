@@ -97,7 +97,7 @@ fn copy(old: &mut [u8], new: &[u8])
 }
 
 // Whether the branches were exchanged, and the first new word at fault by 14.
-#[derive(Drop)]
+#[derive(Clone, Copy)]
 struct Exchanged {
     ok: bool,
     strand: usize,

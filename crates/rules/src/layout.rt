@@ -13,7 +13,7 @@ const TRAMPOLINES_TO: u32 = 131_072;
 
 const BUNDLE: u32 = 16;
 
-#[derive(Drop)]
+#[derive(Clone, Copy)]
 pub struct Layout {
     pub code_start: u32,
     pub trampoline_first: u32,
@@ -24,6 +24,7 @@ pub struct Layout {
 }
 
 // Rule 1 is kept. The length is used as given, whatever it is.
+#[tactic(auto, unfolding(crate::specs::Layout::layout_holds, crate::specs::Layout::sandbox_end))]
 pub fn layout_holds(layout: Layout, length: usize) -> bool
     ensures { result ≡ layout_holds layout length }
 {
@@ -42,6 +43,7 @@ pub fn layout_holds(layout: Layout, length: usize) -> bool
 }
 
 // Rule 2 is kept.
+#[tactic(auto, unfolding(crate::specs::Layout::length_holds, crate::specs::Layout::code_limit))]
 pub fn length_holds(length: usize) -> bool
     ensures { result ≡ length_holds length }
 {

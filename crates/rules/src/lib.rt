@@ -1,6 +1,8 @@
 // The rules of a word in its bundle, over the decoder's answers: nothing here reads a region or a
 // ledger. The role of a direct target is handed in, so the check takes it from the code and the patch
 // from the ledger and the new bundles.
+#![tactic(auto)]
+
 pub mod layout;
 pub mod outcome;
 pub mod rule;

@@ -5,7 +5,7 @@ ghost use Rattle.rules.specs.Outcome.{reason_verdict, number_of, carries_address
 use decoder::question::why_number;
 use decoder::reading::Why;
 
-#[derive(Drop)]
+#[derive(Clone, Copy)]
 pub enum Reason {
     // 1: the layout breaks a rule.
     Layout,
@@ -37,7 +37,7 @@ pub enum Reason {
     Stranded { at: u32 },
 }
 
-#[derive(Drop)]
+#[derive(Clone, Copy)]
 pub enum Outcome {
     Accepted,
     Refused(Reason),

@@ -15,6 +15,7 @@ use pairs::pair::{branch_guards, closes, mask_guards, test_guards};
 use pairs::role::{HEAD, PLAIN};
 
 // 4: the word is in no class.
+#[tactic(auto, unfolding(crate::specs::Rule::rule4))]
 pub fn rule4(kind: Kind) -> bool
     ensures { result ≡ «r4» kind }
 {
@@ -22,6 +23,7 @@ pub fn rule4(kind: Kind) -> bool
 }
 
 // 5: a register field is 9, or is 15 other than a literal load's base.
+#[tactic(auto, unfolding(crate::specs::Rule::rule5))]
 pub fn rule5(kind: Kind) -> bool
     ensures { result ≡ «r5» kind }
 {
@@ -29,6 +31,7 @@ pub fn rule5(kind: Kind) -> bool
 }
 
 // 6: r13 is written or named outside the rule of pairs.
+#[tactic(auto, unfolding(crate::specs::Rule::rule6))]
 pub fn rule6(word: Reading, next: Reading) -> bool
     ensures { result ≡ «r6» word next }
 {
@@ -42,6 +45,7 @@ pub fn rule6(word: Reading, next: Reading) -> bool
     !is_data_mask(SP, kind) & !closes(word, next)
 }
 
+#[tactic(auto, unfolding(crate::specs::Rule::wants_guard))]
 fn wants_guard(r: u32) -> bool
     ensures { result ≡ wants_guard r }
 {
@@ -49,6 +53,7 @@ fn wants_guard(r: u32) -> bool
 }
 
 // 7: an access has no guard, or only a test guard with the switch off.
+#[tactic(auto, unfolding(crate::specs::Rule::rule7))]
 pub fn rule7(layout: Layout, before: Reading, word: Reading) -> bool
     ensures { result ≡ «r7» layout before word }
 {
@@ -60,6 +65,7 @@ pub fn rule7(layout: Layout, before: Reading, word: Reading) -> bool
 }
 
 // 8: a register branch has no guard.
+#[tactic(auto, unfolding(crate::specs::Rule::rule8))]
 pub fn rule8(before: Reading, word: Reading) -> bool
     ensures { result ≡ «r8» before word }
 {
@@ -71,12 +77,14 @@ pub fn rule8(before: Reading, word: Reading) -> bool
 }
 
 // 9: a call isn't in slot 3.
+#[tactic(auto, unfolding(crate::specs::Rule::rule9))]
 pub fn rule9(kind: Kind, slot: u32) -> bool
     ensures { result ≡ «r9» kind slot }
 {
     is_call(kind) & !(slot == 3)
 }
 
+#[tactic(auto, unfolding(crate::specs::Rule::literal_holds))]
 fn literal_holds(layout: Layout, words: usize, a: u64) -> bool
     ensures { result ≡ literal_holds layout words a }
 {
@@ -90,6 +98,7 @@ fn literal_holds(layout: Layout, words: usize, a: u64) -> bool
 }
 
 // 10: a literal load's four bytes aren't all in the code, or don't start at a multiple of 4.
+#[tactic(auto, unfolding(crate::specs::Rule::rule10))]
 pub fn rule10(layout: Layout, words: usize, place: Place) -> bool
     ensures { result ≡ «r10» layout words place }
 {
@@ -100,6 +109,7 @@ pub fn rule10(layout: Layout, words: usize, place: Place) -> bool
     }
 }
 
+#[tactic(auto, unfolding(crate::specs::Rule::word_at_address))]
 fn word_at_address(layout: Layout, words: usize, a: u64) -> usize
     ensures { result ≡ word_at_address layout words a }
 {
@@ -115,6 +125,7 @@ fn word_at_address(layout: Layout, words: usize, a: u64) -> usize
 }
 
 // The number of the word that a target lands on, or the number of words where it lands on none.
+#[tactic(auto, unfolding(crate::specs::Rule::landing_of))]
 pub fn landing(layout: Layout, words: usize, place: Place) -> usize
     ensures { result ≡ landing_of layout words place }
 {
@@ -125,6 +136,7 @@ pub fn landing(layout: Layout, words: usize, place: Place) -> usize
     }
 }
 
+#[tactic(auto, unfolding(crate::specs::Rule::in_trampolines))]
 fn in_trampolines(layout: Layout, a: u64) -> bool
     ensures { result ≡ in_trampolines layout a }
 {
@@ -132,6 +144,7 @@ fn in_trampolines(layout: Layout, a: u64) -> bool
 }
 
 // The roles that a direct branch may land on.
+#[tactic(auto, unfolding(crate::specs::Rule::landable))]
 pub fn landable(role: u32) -> bool
     ensures { result ≡ «can-land» role }
 {
@@ -140,6 +153,7 @@ pub fn landable(role: u32) -> bool
 
 // 11: a direct target is neither a plain or head word of the code nor a multiple of 16 in the
 // trampolines.
+#[tactic(auto, unfolding(crate::specs::Rule::rule11))]
 pub fn rule11(layout: Layout, words: usize, place: Place, role: u32) -> bool
     ensures { result ≡ «r11» layout words place role }
 {
@@ -154,6 +168,7 @@ pub fn rule11(layout: Layout, words: usize, place: Place, role: u32) -> bool
 }
 
 // Which of rules 4 to 11 the word breaks, in order. role is that of the word that it lands on, if any.
+#[tactic(auto, unfolding(crate::specs::Rule::rules_of))]
 pub fn rules(
     layout: Layout,
     words: usize,
@@ -194,6 +209,7 @@ fn lowest(broken: [bool; 8]) -> u32
 }
 
 // The lowest number that the word breaks, or 0.
+#[tactic(auto, unfolding(crate::specs::Rule::fault_of))]
 pub fn fault(
     layout: Layout,
     words: usize,
