@@ -79,9 +79,11 @@ def respell(text, new):
 
 
 def source(text, new):
-    """Only clauses, imports of definitions and comments of a .rt file have these names; strings are left."""
+    """Only clauses, imports of definitions and comments of a .rt file have these names, with capitals or dashes; a function's name has
+    neither. Strings are left."""
+    old = {name: end for name, end in new.items() if not re.fullmatch(r"[a-z0-9_]+", name)}
     parts = re.split(r'("(?:[^"\\]|\\.)*")', text)
-    return "".join(p if p.startswith('"') else respell(p, new) for p in parts)
+    return "".join(p if p.startswith('"') else respell(p, old) for p in parts)
 
 
 def main(argv):

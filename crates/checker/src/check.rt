@@ -29,6 +29,7 @@ fn class_reason(number: u32, at: u32) -> Reason
 }
 
 // The reason of a word's lowest number, with its address; of a word in no class, with why.
+#[tactic(auto, unfolding(decoder::specs::Question::in_no_class))]
 pub(crate) fn reason(word: Reading, number: u32, at: u32) -> Reason
     requires { (in_no_class word.kind ≡ eqb number 4) × (4 ≤ number) × (number ≤ 11) }
     ensures { reason_verdict result ≡ refusal_of word.kind number at }

@@ -6,7 +6,7 @@ ghost use Rattle.checker.specs.Region.{reading_at, before_at, next_at};
 ghost use Rattle.checker.specs.Standing.{target_role, role_from, standing_fault};
 ghost use Rattle.checker.specs.parts.Stands.{Stands};
 
-use crate::region::{before_at_lem, next_at, reading_at, role_at};
+use crate::region::{before_at, next_at, reading_at, role_at};
 use decoder::place::{Place, direct_target};
 use decoder::reading::Reading;
 use pairs::role::PLAIN;
@@ -21,6 +21,7 @@ pub(crate) struct Fault {
 }
 
 // The role of word j of the region.
+#[tactic(auto, unfolding(crate::specs::Standing::role_from))]
 pub(crate) fn role_from(ledger: &[u32], bytes: &[u8], first: usize, j: usize) -> u32
     requires { (length bytes.now % 16 ≡ 0) × (j < length ledger.now) }
     ensures { result ≡ role_from ledger.now bytes.now first j }
@@ -36,6 +37,7 @@ pub(crate) fn role_from(ledger: &[u32], bytes: &[u8], first: usize, j: usize) ->
 }
 
 // The role of the word that a target lands on. Where it lands on none, plain stands for it.
+#[tactic(auto, unfolding(crate::specs::Standing::target_role))]
 fn target_role(layout: Layout, ledger: &[u32], bytes: &[u8], first: usize, target: Place) -> u32
     requires { length bytes.now % 16 ≡ 0 }
     ensures { result ≡ target_role layout (length ledger.now) (role_from ledger.now bytes.now first) target }
@@ -48,6 +50,7 @@ fn target_role(layout: Layout, ledger: &[u32], bytes: &[u8], first: usize, targe
 }
 
 // The lowest number that word k breaks, or 0, from its reading and those beside it.
+#[tactic(auto, unfolding(crate::specs::Standing::standing_fault, crate::specs::Standing::fault_at, crate::specs::Standing::target_at))]
 fn word_fault(
     layout: Layout,
     ledger: &[u32],
@@ -74,7 +77,7 @@ fn bundle_fault(layout: Layout, ledger: &[u32], bytes: &[u8], first: usize, b: u
     ensures { First (standing_fault layout ledger.now bytes.now first) (4 * b) 4 result.at result.number }
 {
     let start = 4 * b;
-    let mut before = before_at_lem(bytes, start);
+    let mut before = before_at(bytes, start);
     let mut word = reading_at(bytes, start);
     let mut slot = 0;
     while slot < 4 {

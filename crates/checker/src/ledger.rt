@@ -56,6 +56,7 @@ pub(crate) fn write_roles(layout: Layout, ledger: &mut [u32], bytes: &[u8], firs
 }
 
 // The number of the word that word k lands on, or the number of words.
+#[tactic(auto, unfolding(crate::specs::Standing::landing_at, crate::specs::Standing::target_at))]
 pub(crate) fn landing_at(
     layout: Layout,
     words: usize,
@@ -72,6 +73,7 @@ pub(crate) fn landing_at(
 
 // One landing put on word j, or taken off it, if there is such a word. False where its count is at its
 // bound: the number of words, or 0.
+#[tactic(auto, using(crate::proofs::Moving::one_nowhere, crate::proofs::Moving::one_refused, crate::proofs::Moving::one_moved))]
 fn move_landing(ledger: &mut [u32], j: usize, on: bool) -> bool
     requires { (length ledger.old ≤ 2 ^ 29) × (Within ledger.old) }
     ensures { Moved on (one_on j) ledger.old ledger.new result }

@@ -6,6 +6,8 @@
 //
 // The patch reads the ledger once, to bound its counts, and goes over the old and new bundles a bounded
 // number of times; it reads none of the other code. Neither call has a buffer of its own.
+#![tactic(auto)]
+
 pub mod check;
 mod fault;
 mod ledger;

@@ -170,6 +170,7 @@ fn patch_words(
 }
 
 // 12 does not hold.
+#[tactic(auto, unfolding(crate::specs::Patch::shape_holds))]
 fn shape_holds(words: usize, offset: usize, old: &[u8], new: &[u8]) -> bool
     requires { words * 4 < 2 ^ 63 }
     ensures { result ≡ shape_holds words offset old.now new.now }

@@ -14,6 +14,7 @@ fn wide(byte: u8) -> u32
 }
 
 // Word k, little-endian.
+#[tactic(auto, unfolding(crate::specs::Region::word_at))]
 fn word(bytes: &[u8], k: usize) -> u32
     requires { 4 * k + 4 ≤ length bytes.now }
     ensures { result ≡ word_at bytes.now k }
@@ -26,6 +27,7 @@ fn word(bytes: &[u8], k: usize) -> u32
 }
 
 // The four readings of bundle b.
+#[tactic(auto, unfolding(crate::specs::Region::bundle_at, crate::specs::Region::bundle_words))]
 pub(crate) fn bundle(bytes: &[u8], b: usize) -> [Reading; 4]
     requires { 16 * b + 16 ≤ length bytes.now }
     ensures { result ≡ bundle_at bytes.now b }
@@ -40,6 +42,7 @@ pub(crate) fn bundle(bytes: &[u8], b: usize) -> [Reading; 4]
 }
 
 // The reading of word k alone.
+#[tactic(auto, using(crate::proofs::Words::reading_at_lem))]
 pub(crate) fn reading_at(bytes: &[u8], k: usize) -> Reading
     requires { (length bytes.now % 16 ≡ 0) × (4 * k < length bytes.now) }
     ensures { result ≡ reading_at bytes.now k }
@@ -59,7 +62,8 @@ fn blank() -> Reading
 }
 
 // The reading of the word before word k in its bundle, or a blank one in slot 0.
-pub(crate) fn before_at_lem(bytes: &[u8], k: usize) -> Reading
+#[tactic(auto, using(crate::proofs::Words::before_at_lem), unfolding(crate::specs::Region::before_at))]
+pub(crate) fn before_at(bytes: &[u8], k: usize) -> Reading
     requires { (length bytes.now % 16 ≡ 0) × (4 * k < length bytes.now) }
     ensures { result ≡ before_at bytes.now k }
 {
@@ -70,6 +74,7 @@ pub(crate) fn before_at_lem(bytes: &[u8], k: usize) -> Reading
 }
 
 // The reading of the word after word k in its bundle, or a blank one in slot 3.
+#[tactic(auto, using(crate::proofs::Words::next_at_lem, crate::proofs::Words::past_slot_3))]
 pub(crate) fn next_at(bytes: &[u8], k: usize) -> Reading
     requires { (length bytes.now % 16 ≡ 0) × (4 * k < length bytes.now) }
     ensures { result ≡ next_at bytes.now k }
@@ -81,9 +86,10 @@ pub(crate) fn next_at(bytes: &[u8], k: usize) -> Reading
 }
 
 // The role of word k.
+#[tactic(auto, using(crate::proofs::Words::role_at_lem))]
 pub(crate) fn role_at(bytes: &[u8], k: usize) -> u32
     requires { (length bytes.now % 16 ≡ 0) × (4 * k < length bytes.now) }
     ensures { result ≡ role_at bytes.now k }
 {
-    role_after(before_at_lem(bytes, k), reading_at(bytes, k))
+    role_after(before_at(bytes, k), reading_at(bytes, k))
 }
