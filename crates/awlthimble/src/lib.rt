@@ -1,6 +1,8 @@
 // The C interface: the calls again, on numbers and slices. A slice is a pointer and a length there.
 // An answer is one number: 0 where accepted; else bits 7..0 are the refusal's number, bits 15..8 say why
 // where that is 4, and the high 32 bits are its address, 0 where it has none. All other bits are 0.
+#![tactic(auto)]
+
 ghost use Rattle.std.specs.Prelude.{◌≡◌};
 ghost use Rattle.rules.specs.Outcome.{verdict_of};
 ghost use Rattle.awlthimble.specs.Answer.{packed, layout_of, CheckAnswered, PatchAnswered};
@@ -10,6 +12,7 @@ use checker::patch::patch;
 use rules::layout::Layout;
 use rules::outcome::{Outcome, address, number, why};
 
+#[tactic(auto, unfolding(crate::specs::Answer::packed))]
 fn answer(outcome: Outcome) -> u64
     ensures { result ≡ packed (verdict_of outcome) }
 {
