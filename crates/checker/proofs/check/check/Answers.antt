@@ -1,5 +1,5 @@
 -- The tests that led to each `return` say which case of the definition holds.
-use Rattle.std.proofs.Common.{arith, ◌≡◌, ◌+◌, ◌*◌, ◌^◌, ◌<◌}
+use Rattle.std.proofs.Common.{arith, ◌+◌, ◌*◌, ◌^◌, ◌<◌}
 use mathlib.Core.Path.{◌∙◌, sym}
 use Rattle.checker.proofs.Checks.{checked_1, checked_2, checked_3, Kept, stands, found_address, found_reads, found_asks, checked_word, checked_all}
 use Rattle.checker.proofs.check.check.Goals as goal
@@ -35,13 +35,13 @@ first_fault-found-requires c = stands (kept c)
 pub overflow_cast-at : goal.overflow_cast-at
 overflow_cast-at c =
     let fits : c.args.layout.code_start + 4 * c.first_fault-found.result.at < 2 ^ 31 =
-        found_address (kept (goal.at.overflow_cast-at c).Else-ledger-length) c.first_fault-found.ensures c.if-number-ne0.true in
+    found_address (kept (goal.at.overflow_cast-at c).Else-ledger-length) c.first_fault-found.ensures c.if-number-ne0.true in
     omega arith
 
 pub overflow_add-at : goal.overflow_add-at
 overflow_add-at c =
     let fits : c.args.layout.code_start + 4 * c.first_fault-found.result.at < 2 ^ 31 =
-        found_address (kept (goal.at.overflow_add-at c).Else-ledger-length) c.first_fault-found.ensures c.if-number-ne0.true in
+    found_address (kept (goal.at.overflow_add-at c).Else-ledger-length) c.first_fault-found.ensures c.if-number-ne0.true in
     omega arith
 
 pub reading_at-requires : goal.reading_at-requires

@@ -1,5 +1,5 @@
 -- The first of the slots that breaks a rule, or none of four.
-use Rattle.std.proofs.Common.{arith, below_more, ◌≡◌, ℕ}
+use Rattle.std.proofs.Common.{arith, below_more, ◌≡◌}
 use mathlib.Core.Path.{◌∙◌, sym}
 use Rattle.checker.proofs.First.{found_at, found_none}
 use Rattle.checker.proofs.Words.{slot_after}

@@ -23,11 +23,11 @@ loop-slot-preserved c =
     let k = 4 * a.b + at.slot in
     let w = c.write_role in
     let role : get_or c.roles-roles.result at.slot 0 ≡ role_at a.bytes.now k =
-        ap (λ (rs : List ℕ). get_or rs at.slot 0) at.invariant.1 ∙ role_in_bundle a.bytes.now a.b at.slot c.loop-slot-test.true in
+    ap (λ (rs : List ℕ). get_or rs at.slot 0) at.invariant.1 ∙ role_in_bundle a.bytes.now a.b at.slot c.loop-slot-test.true in
     let one : RolesWritten a.bytes.now a.first k (k + 1) l w.new.ledger =
-        subst (λ (m : List ℕ). RolesWritten a.bytes.now a.first k (k + 1) l m)
-        (sym (w.ensures ∙ ap (λ (r : ℕ). set l (a.first + k) (get_or l (a.first + k) 0 / 4 * 4 + r)) role))
-        (written_one a.bytes.now a.first k l (omega arith)) in (
+    subst (λ (m : List ℕ). RolesWritten a.bytes.now a.first k (k + 1) l m)
+    (sym (w.ensures ∙ ap (λ (r : ℕ). set l (a.first + k) (get_or l (a.first + k) 0 / 4 * 4 + r)) role))
+    (written_one a.bytes.now a.first k l (omega arith)) in (
       omega arith,
       at.invariant.1,
       subst (λ (x : ℕ). RolesWritten a.bytes.now a.first (4 * a.b) x a.ledger.now w.new.ledger) (add_assoc (4 * a.b) at.slot 1)

@@ -30,7 +30,7 @@ returns-then-lands-count c =
     let k = c.loop-k.k in
     let lands = c.landable-lands.ensures ∙ ap landable c.role_at.ensures in
     let yes' : (not (landable (role_at a.new.now k)) && not (eqb (count_at a.ledger.now (a.first + k)) 0)) ≡ true =
-        ap (λ (b : Bool). not b && not (eqb (count_at a.ledger.now (a.first + k)) 0)) (sym lands) ∙ c.if-lands-count.true in
+    ap (λ (b : Bool). not b && not (eqb (count_at a.ledger.now (a.first + k)) 0)) (sym lands) ∙ c.if-lands-count.true in
     sym (c.loop-k.invariant.1 ∙ ap (first_from _ k) (one_more _ k c.loop-k-test.true) ∙ first_here _ k _ (found a.ledger.now a.new.now a.first k yes'))
 
 pub loop-k-preserved : goal.loop-k-preserved
@@ -39,7 +39,7 @@ loop-k-preserved c =
     let k = c.loop-k.k in
     let lands = c.landable-lands.ensures ∙ ap landable c.role_at.ensures in
     let no' : (not (landable (role_at a.new.now k)) && not (eqb (count_at a.ledger.now (a.first + k)) 0)) ≡ false =
-        ap (λ (b : Bool). not b && not (eqb (count_at a.ledger.now (a.first + k)) 0)) (sym lands) ∙ c.if-lands-count.false in (
+    ap (λ (b : Bool). not b && not (eqb (count_at a.ledger.now (a.first + k)) 0)) (sym lands) ∙ c.if-lands-count.false in (
       omega arith,
       c.loop-k.invariant.1
           ∙ ap (first_from _ k) (one_more _ k c.loop-k-test.true)

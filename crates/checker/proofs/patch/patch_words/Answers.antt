@@ -1,5 +1,5 @@
 -- The tests that led to each `return` say which case of the definition holds, and a refusal has undone what it moved.
-use Rattle.std.proofs.Common.{ℕ, arith, ◌≡◌, ◌≤◌, Bool, true, List, length}
+use Rattle.std.proofs.Common.{ℕ, ◌≡◌, Bool, true, List, length}
 use mathlib.Core.Path.{◌∙◌, sym, ap, subst}
 use borrow.Author.Tests.{not-true, not-false}
 use Rattle.rules.specs.declared.layout.Layout.{Layout}
@@ -9,7 +9,7 @@ use Rattle.checker.specs.parts.Patch.{Exchanges, PatchedWords}
 use Rattle.checker.specs.parts.Stands.{BothStand}
 use Rattle.checker.proofs.Exchange.{counts_within}
 use Rattle.checker.proofs.Undo.{Agreed, within_after, undone}
-use Rattle.checker.proofs.Patches.{disagreed, counts_disagree, roles_disagree, exchange_says, back_stands, addressed, fault_inside, fault_reads, fault_asks, faulty, stranded, patched, ledger_moved}
+use Rattle.checker.proofs.Patches.{disagreed, counts_disagree, roles_disagree, exchange_says, back_stands, fault_asks, faulty, stranded, patched, ledger_moved}
 use Rattle.checker.proofs.patch.patch_words.Goals as goal
 
 -- what the tests that pass 13 tell

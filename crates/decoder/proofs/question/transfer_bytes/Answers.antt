@@ -2,7 +2,7 @@
 use mathlib.Core.Path.{◌∙◌, sym, ap}
 use Prim.Native.Nat.{ℕ, ◌*◌}
 use lib.Dec.{lit≤}
-use Rattle.decoder.specs.Question.{named_below, register_list, transfer_bytes}
+use Rattle.decoder.specs.Question.{named_below, transfer_bytes}
 use Rattle.decoder.proofs.Counted.{counted}
 use Rattle.decoder.proofs.question.transfer_bytes.Goals as goal
 
