@@ -1,16 +1,10 @@
 // Reading and writing. Nothing can be proved of what the system reads and writes.
-ghost use Rattle.std.specs.Prelude.{◌+◌, ◌≤◌, ◌≡◌, length};
+ghost use Rattle.std.specs.Prelude.{◌+◌, ◌≤◌, ◌≡◌, length, IfOk};
 ghost use Rattle.io.specs.Counts.{IsPrefixLen};
 
 use crate::line::line;
-use libc::{STDIN_FILENO, STDOUT_FILENO};
-
-// How many bytes were read, and whether a read failed.
-#[derive(Drop)]
-struct Input {
-    bytes: usize,
-    failed: bool,
-}
+use std::io;
+use std::io::{Input, Read};
 
 // One byte more than the most code: a longer input fills it, and so has a wrong length.
 const MOST: usize = 65537;
@@ -28,55 +22,45 @@ fn entries() -> [u32; MOST / 4]
     [0; MOST / 4]
 }
 
-// One read, into the rest of the buffer. No bytes mean that the input ended, or that it failed.
-fn read_more(code: &mut [u8], from: usize) -> Input
+// One read, into the rest of the buffer. Answers how many bytes it put there; none mean that the input ended.
+fn read_more<R: Read>(input: &mut R, code: &mut [u8], from: usize) -> io::Result<usize>
     requires { from ≤ length code.old }
-    ensures { from + result.bytes ≤ length code.old }
+    ensures { IfOk result (λ more. from + more ≤ length code.old) }
 {
-    let got = libc::read(STDIN_FILENO, &mut code[from..]);
-    let bytes = io::count(got, &code[from..]);
-    Input {
-        bytes,
-        failed: got < 0,
-    }
+    input.read(&mut code[from..])
 }
 
-// Reads until the input ends, a read fails or the buffer is full.
-fn read_code(code: &mut [u8]) -> Input
-    ensures { IsPrefixLen result.bytes code.new }
+// Reads until the input ends, a read fails or the buffer is full, and answers how many bytes it put at
+// the start of the buffer.
+fn read_code<R: Read>(input: &mut R, code: &mut [u8]) -> io::Result<usize>
+    ensures { IfOk result (λ bytes. IsPrefixLen bytes code.new) }
 {
     let mut n: usize = 0;
     while n < code.len() {
-        let input = read_more(code, n);
-        let more = input.bytes;
+        let more = read_more(input, code, n)?;
         if more == 0 {
-            return Input {
-                bytes: n,
-                failed: input.failed,
-            };
+            return Ok(n);
         }
         n += more;
     }
-    Input {
-        bytes: n,
-        failed: false,
-    }
+    Ok(n)
 }
 
 // The whole program.
-pub fn run() {
+pub fn run(rt: &(impl Input + Print + Eprint)) {
     let mut code = bytes();
-    let input = read_code(&mut code);
-    if input.failed {
-        os::fail(b"standard input");
-        return;
-    }
-    let n = input.bytes;
+    let n = match read_code(&mut rt.reader(), &mut code) {
+        Ok(n) => n,
+        Err(error) => {
+            let _ = eprintln!(rt; "standard input: {error}");
+            return;
+        }
+    };
     let words = n / 4;
     let mut ledger = entries();
     let mut text = [0u8; 64];
     let end = line(&code[..n], &mut ledger[..words], &mut text);
-    if !io::write_all(STDOUT_FILENO, &text[..end]) {
-        os::fail(b"standard output");
+    if let Err(error) = rt.write_all(&text[..end]) {
+        let _ = eprintln!(rt; "standard output: {error}");
     }
 }
