@@ -1,5 +1,7 @@
-// Reading and writing. Nothing can be proved of what the system reads and writes.
-ghost use Rattle.std.specs.Prelude.{◌+◌, ◌≤◌, ◌≡◌, length, IfOk};
+// Reading and writing. Nothing can be proved of what the system reads and writes; what is proved of the
+// reading holds for any reader, and says more of one whose bytes are known.
+ghost use Rattle.std.specs.Prelude.{ℕ, ◌+◌, ◌<◌, ◌≤◌, ◌≡◌, length, take, drop, IfOk, OnErr};
+ghost use Rattle.std.specs.Io.KnownBytes.{Consumes, IsAtEnd, ReadConsumes};
 ghost use Rattle.io.specs.Counts.{IsPrefixLen};
 
 use crate::line::line;
@@ -25,7 +27,9 @@ fn entries() -> [u32; MOST / 4]
 // One read, into the rest of the buffer. Answers how many bytes it put there; none mean that the input ended.
 fn read_more<R: Read>(input: &mut R, code: &mut [u8], from: usize) -> io::Result<usize>
     requires { from ≤ length code.old }
-    ensures { IfOk result (λ more. from + more ≤ length code.old) }
+    ensures within { IfOk result (λ more. from + more ≤ length code.old) }
+    ensures before { take from code.new ≡ take from code.old }
+    ensures bytes { ReadConsumes (R.remaining input.old) (R.remaining input.new) result (drop from code.new) }
 {
     input.read(&mut code[from..])
 }
@@ -33,7 +37,11 @@ fn read_more<R: Read>(input: &mut R, code: &mut [u8], from: usize) -> io::Result
 // Reads until the input ends, a read fails or the buffer is full, and answers how many bytes it put at
 // the start of the buffer.
 fn read_code<R: Read>(input: &mut R, code: &mut [u8]) -> io::Result<usize>
-    ensures { IfOk result (λ bytes. IsPrefixLen bytes code.new) }
+    ensures prefix_len { IfOk result (λ bytes. IsPrefixLen bytes code.new) }
+    ensures bytes { IfOk result (λ bytes. Consumes (R.remaining input.old) (R.remaining input.new) (take bytes code.new)) }
+    ensures whole { IfOk result (λ bytes. bytes < length code.new → IsAtEnd (R.remaining input.new)) }
+    ensures err { OnErr result ((bytes : ℕ) × IsPrefixLen bytes code.new
+        × Consumes (R.remaining input.old) (R.remaining input.new) (take bytes code.new)) }
 {
     let mut n: usize = 0;
     while n < code.len() {

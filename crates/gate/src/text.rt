@@ -7,19 +7,16 @@ pub(crate) fn put(out: &mut [u8], at: usize, text: &[u8]) -> usize
     requires { at + length text.now ≤ length out.old }
     ensures { Puts out.old at text.now out.new result }
 {
-    let n = text.len();
-    let mut i: usize = 0;
-    while i < n {
-        out[at + i] = text[i];
-        i += 1;
-    }
-    at + n
+    let end = at + text.len();
+    out[at..end].copy_from_slice(text);
+    end
 }
 
 // Puts the number in decimal.
 pub(crate) fn put_number(out: &mut [u8], at: usize, number: u64) -> usize
     requires { at + 20 ≤ length out.old }
-    ensures { (Puts out.old at (numeral number) out.new result) × (result ≤ at + 20) }
+    ensures text { Puts out.old at (numeral number) out.new result }
+    ensures within { result ≤ at + 20 }
 {
     let mut digits = [0u8; 20];
     let n = io::decimal(number, &mut digits);
