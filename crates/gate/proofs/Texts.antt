@@ -1,16 +1,20 @@
 -- Text put after text is the two in one, and a numeral is what `io::decimal` writes.
 use Prim.Native.Nat.{ℕ, zero, suc, ◌+◌, ◌-◌, ◌*◌, ◌/◌, ◌%◌, ◌^◌, ◌≤◌, ◌<◌}
-use native.Mathlib.Nat.{add_assoc, pow-suc, one-le-pow, not-suc-le-zero, le_of_suc-le-suc}
+use native.Mathlib.Nat.{add_assoc, pow-suc, one-le-pow, pow-le-pow_right, lt_of_not-le, not-suc-le-zero, le_of_suc-le-suc}
 use native.Mathlib.Omega.{arith}
 use mathlib.Core.Path.{◌≡◌, ◌∙◌, sym, ap, ap₂, subst}
 use mathlib.Core.Bool.{Bool, cond}
 use mathlib.Core.List.{List, [], ◌∷◌, ◌++◌, append_assoc}
 use lib.ListN.{length, take, drop, length-append}
-use lib.Seq.{take_at, drop_at, drop-drop, length-take-le}
+use lib.Seq.{paste, take-length, take_at, drop_at, drop-drop, length-take-le}
 use borrow.Author.Tests.{lt-ltb, le-ltb}
 use Rattle.io.specs.Counts.{IsPrefixLen}
 use Rattle.io.specs.Digits.{hex_digit_ascii, last_digits, IsDigitCount}
 use Rattle.gate.specs.Text.{numeral_in, numeral, Puts}
+
+-- a whole text, pasted
+pub paste_whole : (d : List ℕ) (at : ℕ) (s : List ℕ) → paste d at s (length s) ≡ take at d ++ s ++ drop (at + length s) d
+paste_whole d at s = ap (λ (t : List ℕ). take at d ++ t ++ drop (at + length s) d) (take-length s)
 
 -- a text and, where it ends, another
 pub puts_then : {b m a s t : List ℕ} {at e f : ℕ} → at ≤ length b → Puts b at s m e → Puts m e t a f → Puts b at (s ++ t) a f
@@ -65,6 +69,16 @@ numeral_places (suc places) (suc (suc k)) n h most =
     let fewer : IsDigitCount 10 1 (n / 10) (suc k) = (omega arith, omega arith, λ _. subst (λ (j : ℕ). 10 ^ j ≤ n / 10) last low) in
     ap₂ (λ (b : Bool) (g : ℕ). cond b [] (numeral_in places (n / 10)) ++ (g ∷ [])) (le-ltb n 10 (omega arith)) (last_digit n)
     ∙ ap (λ (l : List ℕ). l ++ (hex_digit_ascii (n % 10) ∷ [])) (numeral_places places (suc k) (n / 10) fewer (le_of_suc-le-suc most))
+
+-- twenty digits hold 64 bits
+pub few_digits : (n k : ℕ) → n < 2 ^ 64 → IsDigitCount 10 1 n k → k ≤ 20
+few_digits n k small h = let below : k < 21 = lt_of_not-le more in omega arith
+  where
+    more : ¬ (21 ≤ k)
+    more many =
+        let high : 10 ^ 20 ≤ 10 ^ (k - 1) = pow-le-pow_right {n = 10} (omega arith) {i = 20} {j = k - 1} (omega arith) in
+        let low : 10 ^ (k - 1) ≤ n = h.2 (omega arith) in
+        omega arith
 
 pub numeral_is : (k n : ℕ) → IsDigitCount 10 1 n k → k ≤ 20 → numeral n ≡ last_digits 10 k n
 unfolding numeral
