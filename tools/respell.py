@@ -3,9 +3,10 @@
 
 usage: python3 tools/respell.py [--dry]      at the top of the checkout, once, after the toolchain's own port script
 
-Names are those that a file of specs/ or proofs/ declares, with capitals inside or dashes. A lemma that would fall together with
-a definition is told apart by `_lem`. Respelled are .antt files and the clauses and imports of .rt files; functions, strings,
-must-fail edits and pages are left alone.
+Names are those that a file of specs/ or proofs/ declares, with capitals inside or dashes, and the variables and aliases of those
+files. A lemma that would fall together with a definition is told apart by `_lem`. Respelled are .antt files and the clauses and
+imports of .rt files; functions, strings, the prose of comments, must-fail edits and pages are left alone, and so are the
+constructors of `Class`, which would fall together with definitions.
 """
 import collections
 import glob
@@ -16,11 +17,13 @@ TOKEN = re.compile(r"[^\s(){}.,;:\"«»\[\]`]+")
 DECLARED = re.compile(r"^\s*(?:(?:abbrev|unfoldable|pub|rec)\s+)*([^\s(){}.,:;«»\[\]\"]+)(?:\s+\{[^}]*\})?\s*:(?!=)\s")
 MADE = re.compile(r"^(returns|the-|loop-|if-|Need-)")
 
-# Two facts, which are spelled as types, and the files that have them; and an import under another name.
-FACTS = {
+# What goes for a file alone: facts, which are spelled as types; a point and an alias that stand beside no definition of their name.
+ALONE = {
     "crates/decoder/proofs/Others.antt": {"asked": "Asked"},
     "crates/checker/specs/parts/Ledger.antt": {"moves": "Moves"},
     "crates/checker/proofs/Moving.antt": {"moves": "Moves"},
+    "crates/rules/proofs/Points.antt": {"stranded_at_lem": "stranded_at"},
+    "crates/pairs/proofs/Unique.antt": {"role_after_lem": "role_after"},
 }
 ALSO = {"names-r": "names_r"}
 
@@ -78,6 +81,32 @@ def respell(text, new):
     return TOKEN.sub(lambda m: new.get(m[0], m[0]), text)
 
 
+def definitions(path, text, new):
+    """A file of specs/ or proofs/: in comments only what is in backticks or has capitals inside; then the file's own variables and
+    aliases."""
+    lines = []
+    for line in text.split("\n"):
+        if line.lstrip().startswith("--"):
+            capitals = {name: end for name, end in new.items() if re.search(r"[a-z0-9][A-Z]", name)}
+            parts = re.split(r"(`[^`]*`)", line)
+            lines.append("".join(respell(p, new if p.startswith("`") else capitals) for p in parts))
+        else:
+            lines.append(respell(line, new))
+    if by_hand(path):
+        return "\n".join(lines)
+    alone, imported, words = dict(ALONE.get(path, {})), set(), set()
+    for line in lines:
+        if re.match(r"\s*(use|open)\b", line):
+            imported.update(TOKEN.findall(line.partition("{")[2]))
+            words.add(line.partition("} as " if "{" in line else " as ")[2].strip())
+        elif not line.lstrip().startswith("--"):
+            words.update(TOKEN.findall(line))
+    for word in words - imported:
+        if re.fullmatch(r"[a-z][a-z0-9]*((-[a-z0-9]+)+|([A-Z][a-z0-9]*)+)'*", word) and snake(word) not in words | imported and not word.startswith("of-"):
+            alone[word] = snake(word)
+    return "\n".join(line if line.lstrip().startswith("--") else respell(line, alone) for line in lines)
+
+
 def source(text, new):
     """Only clauses, imports of definitions and comments of a .rt file have these names, with capitals or dashes; a function's name has
     neither. Strings are left."""
@@ -98,9 +127,7 @@ def main(argv):
     for path in list(files()) + sorted(glob.glob("crates/*/src/**/*.rt", recursive=True)):
         with open(path, encoding="utf-8") as f:
             text = f.read()
-        out = respell(text, new) if path.endswith(".antt") else source(text, new)
-        for fact, spelled in FACTS.get(path, {}).items():
-            out = re.sub(r"(?m)^(?!\s*--).*$", lambda m: respell(m[0], {fact: spelled}), out)
+        out = definitions(path, text, new) if path.endswith(".antt") else source(text, new)
         if out != text:
             turned += 1
             with open(path, "w", encoding="utf-8") as f:

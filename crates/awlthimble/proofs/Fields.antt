@@ -29,5 +29,5 @@ fields v told =
 pub check_fields : (l : Layout) (code before after : List ℕ) (r : ℕ) → CheckAnswered l code before after r → Fields (check_verdict l code (length before)) r
 check_fields l code before after r p = subst (Fields _) (sym p.answer) (fields _ (check_told l code (length before)))
 
-pub patch_fields : (l : Layout) (ledger : List ℕ) (offset : ℕ) (old new after oldAfter : List ℕ) (r : ℕ) → PatchAnswered l ledger offset old new after oldAfter r → Fields (patch_verdict l ledger offset old new) r
-patch_fields l ledger offset old new after oldAfter r p = subst (Fields _) (sym p.answer) (fields _ (patch_told l ledger offset old new))
+pub patch_fields : (l : Layout) (ledger : List ℕ) (offset : ℕ) (old new after old_after : List ℕ) (r : ℕ) → PatchAnswered l ledger offset old new after old_after r → Fields (patch_verdict l ledger offset old new) r
+patch_fields l ledger offset old new after old_after r p = subst (Fields _) (sym p.answer) (fields _ (patch_told l ledger offset old new))

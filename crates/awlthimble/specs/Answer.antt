@@ -17,7 +17,7 @@ pub record CheckAnswered (l : Layout) (code before after : List ℕ) (r : ℕ) :
   pub answer : r ≡ packed (check_verdict l code (length before))
   pub ledger : after ≡ ledger_after (check_verdict l code (length before)) (ledger_of l code) before
 
-pub record PatchAnswered (l : Layout) (ledger : List ℕ) (offset : ℕ) (old new after oldAfter : List ℕ) (r : ℕ) : Type 0 where
+pub record PatchAnswered (l : Layout) (ledger : List ℕ) (offset : ℕ) (old new after old_after : List ℕ) (r : ℕ) : Type 0 where
   pub answer : r ≡ packed (patch_verdict l ledger offset old new)
   pub ledger' : after ≡ ledger_after (patch_verdict l ledger offset old new) (moved_ledger l ledger (offset / 4) old new) ledger
-  pub bytes : oldAfter ≡ ledger_after (patch_verdict l ledger offset old new) new old
+  pub bytes : old_after ≡ ledger_after (patch_verdict l ledger offset old new) new old

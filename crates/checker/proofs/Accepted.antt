@@ -28,20 +28,20 @@ use Rattle.checker.specs.Check.{words_of, word_breaks, check_verdict}
 use Rattle.checker.proofs.Words.{next_at_lem, past_slot_3}
 use Rattle.checker.proofs.Demands.{refused_not, AllMeet, accepted_exactly, order_1, order_2, order_3}
 
-module _ (l : Layout) (code : List ℕ) (entries : ℕ) (is-accepted : check_verdict l code entries ≡ accepted) where
+module _ (l : Layout) (code : List ℕ) (entries : ℕ) (is_accepted : check_verdict l code entries ≡ accepted) where
   pub layout_held : layout_holds l (length code) ≡ true
-  layout_held = by_test (layout_holds l (length code)) (λ t. t) (λ t. absurd (refused_not 1 (sym (order_1 l code entries t) ∙ is-accepted)))
+  layout_held = by_test (layout_holds l (length code)) (λ t. t) (λ t. absurd (refused_not 1 (sym (order_1 l code entries t) ∙ is_accepted)))
 
   pub length_held : length_holds (length code) ≡ true
-  length_held = by_test (length_holds (length code)) (λ t. t) (λ t. absurd (refused_not 2 (sym (order_2 l code entries layout_held t) ∙ is-accepted)))
+  length_held = by_test (length_holds (length code)) (λ t. t) (λ t. absurd (refused_not 2 (sym (order_2 l code entries layout_held t) ∙ is_accepted)))
 
   pub entries_held : entries ≡ words_of code
   entries_held =
       by_test (eqb entries (words_of code)) (λ t. eqb-true _ _ t)
-      (λ t. absurd (refused_not 3 (sym (order_3 l code entries layout_held length_held (eqb-false _ _ t)) ∙ is-accepted)))
+      (λ t. absurd (refused_not 3 (sym (order_3 l code entries layout_held length_held (eqb-false _ _ t)) ∙ is_accepted)))
 
   pub all_meet : AllMeet l code
-  all_meet = (accepted_exactly l code entries layout_held length_held entries_held).0 is-accepted
+  all_meet = (accepted_exactly l code entries layout_held length_held entries_held).0 is_accepted
 
   -- by rule 6
   spares_sp : (k : ℕ) → k < words_of code → takes_sp (reading_at code k).kind ≡ false

@@ -160,7 +160,7 @@ landings_most l n bytes first k j = sum_most _ k (λ i. small (eqb (landing_at l
     small true = omega arith
     small false = omega arith
 
-module _ (l : Layout) (code before clear' roles : List ℕ) (n : length before ≡ words_of code) (c-length : length clear' ≡ length before) (r-length : length roles ≡ length clear')
+module _ (l : Layout) (code before clear' roles : List ℕ) (n : length before ≡ words_of code) (c_length : length clear' ≡ length before) (r_length : length roles ≡ length clear')
     (cleared : Cleared before clear') (written : RolesWritten code 0 0 (length code / 4) clear' roles) where
   -- an entry with no landing yet is its role
   role_entry : (i : ℕ) → i < words_of code → get_or roles i 0 ≡ role_at code i
@@ -187,7 +187,7 @@ module _ (l : Layout) (code before clear' roles : List ℕ) (n : length before �
 
   pub ledger_written : (after : List ℕ) (r : ℕ) → length after ≡ length roles → MovedFirst true l code 0 (length code / 4) roles after r → after ≡ ledger_of l code
   unfolding ledger_of entry_of
-  ledger_written after r a-length p =
+  ledger_written after r a_length p =
       let words : length roles ≡ words_of code = omega arith in
       list_is after _ (words_of code) (omega arith)
       (λ i h.

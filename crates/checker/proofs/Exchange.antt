@@ -25,7 +25,7 @@ stranded_same : (f g : ℕ → ℕ) (new : List ℕ) (first k : ℕ) → f (firs
 unfolding stranded_at
 stranded_same f g new first k e = simp e
 
-module _ (l : Layout) (old new : List ℕ) (first : ℕ) (before mid : List ℕ) (m-length : length mid ≡ length before)
+module _ (l : Layout) (old new : List ℕ) (first : ℕ) (before mid : List ℕ) (m_length : length mid ≡ length before)
     (taken : Bool) (t : Moved false (landings l (length before) old first (length old / 4)) before mid taken) where
   abbrev n : ℕ
   n = length before
@@ -54,7 +54,7 @@ module _ (l : Layout) (old new : List ℕ) (first : ℕ) (before mid : List ℕ)
     all_off = subst (λ (b : Bool). Moved false off before mid b) yes' t
 
     pub within_mid : Within mid
-    within_mid = within_then false off before mid m-length all_off w
+    within_mid = within_then false off before mid m_length all_off w
 
     less : (j : ℕ) → j < n → get_or mid j 0 / 4 ≡ count_less l before old first j
     unfolding count_less
@@ -66,7 +66,7 @@ module _ (l : Layout) (old new : List ℕ) (first : ℕ) (before mid : List ℕ)
     new_fit_lem : can_move true mid (on (length mid)) ≡ new_fit l before old new first
     unfolding new_fit can_move fits
     new_fit_lem =
-        ap (λ (x : ℕ). all (λ j. leb (get_or mid j 0 / 4 + on x j) x) x) m-length
+        ap (λ (x : ℕ). all (λ j. leb (get_or mid j 0 / 4 + on x j) x) x) m_length
         ∙ all_same _ _ n (λ j h. ap (λ (x : ℕ). leb (x + on n j) n) (less j h))
 
     module _ (after : List ℕ) (added : Bool) (a : Moved true (on (length mid)) mid after added)
@@ -83,7 +83,7 @@ module _ (l : Layout) (old new : List ℕ) (first : ℕ) (before mid : List ℕ)
                   moved = λ i h.
                       let down = t.yes' yes' i h in
                       let up = a.yes' e i (omega arith) in
-                      let same : on (length mid) i ≡ on n i = ap (λ (x : ℕ). on x i) m-length in
+                      let same : on (length mid) i ≡ on n i = ap (λ (x : ℕ). on x i) m_length in
                       omega arith;
                 };
             place = λ _. s ∙ first_same _ _ 0 (length new / 4) (λ k p q. stranded_same (count_at mid) (count_less l before old first) new first k (less (first + k) (omega arith)));
@@ -92,12 +92,12 @@ module _ (l : Layout) (old new : List ℕ) (first : ℕ) (before mid : List ℕ)
 
       -- no room for the new ones, so the old ones are put on again
       pub kept_out : added ≡ false → (last : List ℕ) (r : Bool) → length last ≡ length after → Moved true (landings l (length after) old first (length old / 4)) after last r → Exchanges l old new first before last false strand
-      kept_out e last r l-length b =
+      kept_out e last r l_length b =
           record {
             answer = sym e ∙ answers;
             yes' = λ f. absurd (false≢true f);
             place = λ f. absurd (false≢true f);
             no' = λ _.
-                moved_back false off before mid m-length all_off w last r (l-length ∙ ap length (a.no' e))
-                (rw (← m-length) (subst (λ (x : List ℕ). Moved true (landings l (length x) old first (length old / 4)) x last r) (a.no' e) b));
+                moved_back false off before mid m_length all_off w last r (l_length ∙ ap length (a.no' e))
+                (rw (← m_length) (subst (λ (x : List ℕ). Moved true (landings l (length x) old first (length old / 4)) x last r) (a.no' e) b));
           }

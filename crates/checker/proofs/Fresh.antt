@@ -48,14 +48,14 @@ module _ (f : ℕ → ℕ) (m : ℕ) (no : ℕ → Verdict) (go : Verdict) where
       let top = ltb-false (first_from f 0 m) m t in
       ((λ j h. first_miss f 0 m j (omega arith) (omega arith)), sym (simp t) ∙ e))
 
-module _ (l : Layout) (code : List ℕ) (is-accepted : check_verdict l code (words_of code) ≡ accepted) (offset : ℕ) (new : List ℕ) (fit : Fits (length code) offset new) where
+module _ (l : Layout) (code : List ℕ) (is_accepted : check_verdict l code (words_of code) ≡ accepted) (offset : ℕ) (new : List ℕ) (fit : Fits (length code) offset new) where
   open parts l code offset new use {n, first, m, old, after, ledger, less, fault, strand}
 
   e1 : layout_holds l (length code) ≡ true
-  e1 = layout_held l code n is-accepted
+  e1 = layout_held l code n is_accepted
 
   e2 : length_holds (length code) ≡ true
-  e2 = length_held l code n is-accepted
+  e2 = length_held l code n is_accepted
 
   all_whole : length code % 16 ≡ 0
   all_whole = (length_says (length code) e2).whole
@@ -64,7 +64,7 @@ module _ (l : Layout) (code : List ℕ) (is-accepted : check_verdict l code (wor
   placed = record { whole = fit.whole; at = fit.at; all_whole = all_whole; fits = fit.inside }
 
   no_fault : (j : ℕ) → j < n → code_fault l code j ≡ 0
-  no_fault j h = meets_fault l code j (all_meet l code n is-accepted j h)
+  no_fault j h = meets_fault l code j (all_meet l code n is_accepted j h)
 
   ledger_length : length ledger ≡ n
   ledger_length = (ledger_entries l code).0

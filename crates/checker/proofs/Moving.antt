@@ -118,8 +118,8 @@ module _ (on : Bool) (a : ℕ → ℕ) (before mid : List ℕ) (same : length mi
     can_back = rw same (all_yes _ (length before) (λ i h. fits_back on (length before) _ _ _ (w.most i h) (m.yes' refl i h)))
 
     pub moved_back : (after : List ℕ) (r : Bool) → length after ≡ length mid → Moved (not on) a mid after r → after ≡ before
-    moved_back after r a-length b =
-        ext_get_or 0 after before (a-length ∙ same)
+    moved_back after r a_length b =
+        ext_get_or 0 after before (a_length ∙ same)
         (λ i h. entry_back on _ _ _ _ (m.yes' refl i (omega arith)) (b.yes' (b.answer ∙ can_back) i (omega arith)))
 
 -- ---- one landing
@@ -198,8 +198,8 @@ module _ (on : Bool) (l : Layout) (bytes : List ℕ) (first : ℕ) (before : Lis
 -- what was moved in part is moved back whole
 pub part_back : (on : Bool) (l : Layout) (bytes : List ℕ) (first : ℕ) (before mid after : List ℕ) (asked r s : ℕ) → length mid ≡ length before → length after ≡ length mid → Within before → r < asked
     → MovedFirst on l bytes first asked before mid r → MovedFirst (not on) l bytes first r mid after s → Moved on (landings l (length before) bytes first asked) before after false
-part_back on l bytes first before mid after asked r s same a-length w h p q =
+part_back on l bytes first before mid after asked r s same a_length w h p q =
     let part = landings l (length before) bytes first r in
     let can = subst (λ (n : ℕ). can_move (not on) mid (landings l n bytes first r) ≡ true) (sym same) (can_back on part before mid same p.moved w) in
     let back = subst (λ (n : ℕ). Moved (not on) (landings l n bytes first r) mid after true) same (moved_all (not on) l bytes first mid r after s q can) in
-    unmoved on _ before after (stops on l bytes first before asked mid r p h) (moved_back on part before mid same p.moved w after true a-length back)
+    unmoved on _ before after (stops on l bytes first before asked mid r p h) (moved_back on part before mid same p.moved w after true a_length back)

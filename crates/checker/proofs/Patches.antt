@@ -142,7 +142,7 @@ quarters : (a c r s : ℕ) → a / 4 ≡ c → r ≡ s → a / 4 * 4 + r ≡ 4 *
 quarters a c r s h k = omega arith
 
 module _ {l : Layout} {ledger : List ℕ} {first : ℕ} {old new mid : List ℕ} {strand : ℕ} (g : Agreed l ledger first old new mid strand)
-    (after : List ℕ) (a-length : length after ≡ length mid) (written : RolesWritten new first 0 (length new / 4) mid after) where
+    (after : List ℕ) (a_length : length after ≡ length mid) (written : RolesWritten new first 0 (length new / 4) mid after) where
   count : (i : ℕ) → i < length ledger → get_or mid i 0 / 4 ≡ count_less l ledger old first i + landings l (length ledger) new first (words_of new) i
   unfolding count_less
   count i h = count_after g i h
@@ -174,7 +174,7 @@ module _ {l : Layout} {ledger : List ℕ} {first : ℕ} {old new mid : List ℕ}
   pub ledger_moved : after ≡ moved_ledger l ledger first old new
   unfolding moved_ledger
   ledger_moved =
-      list_is after _ (length ledger) (a-length ∙ g.same)
+      list_is after _ (length ledger) (a_length ∙ g.same)
       (λ i h.
       split first i
       (λ low.

@@ -43,7 +43,7 @@ unedited code offset count h =
     (edited_in code offset (piece code offset count) (i - offset) (omega arith) (omega arith) ∙ list_at _ count (i - offset) (omega arith))))
     (λ b. edited_below code offset (piece code offset count) i here b))
 
-module _ (l : Layout) (code : List ℕ) (is-accepted : check_verdict l code (words_of code) ≡ accepted) (e : Edit) (fit : Fits (length code) e.offset e.new) where
+module _ (l : Layout) (code : List ℕ) (is_accepted : check_verdict l code (words_of code) ≡ accepted) (e : Edit) (fit : Fits (length code) e.offset e.new) where
   abbrev ledger : List ℕ
   ledger = ledger_of l code
 
@@ -62,7 +62,7 @@ module _ (l : Layout) (code : List ℕ) (is-accepted : check_verdict l code (wor
 
   ledger_accepted : mine ≡ accepted → ledger_then l code ledger e ≡ ledger_of l (whole_edit l code ledger e)
   unfolding ledger_then
-  ledger_accepted y = after_acceptance mine _ ledger y ∙ fresh_ledger l code is-accepted e.offset e.new fit
+  ledger_accepted y = after_acceptance mine _ ledger y ∙ fresh_ledger l code is_accepted e.offset e.new fit
 
   all_kept : (mine ≡ accepted → ⊥) → (code_then l code ledger e ≡ code) × (ledger_then l code ledger e ≡ ledger)
   unfolding code_then ledger_then
@@ -75,10 +75,10 @@ module _ (l : Layout) (code : List ℕ) (is-accepted : check_verdict l code (wor
   unfolding answer code_then
   as_fresh =
       record {
-        exactly = exactly_fresh l code is-accepted e.offset e.new fit;
+        exactly = exactly_fresh l code is_accepted e.offset e.new fit;
         code' = code_accepted;
         ledger' = ledger_accepted;
-        never_13 = never_13 l code is-accepted e.offset e.new fit;
+        never_13 = never_13 l code is_accepted e.offset e.new fit;
         below = λ i h low. edited_below code e.offset _ i h low;
         above = λ i h high. edited_above code e.offset _ i h (let same = left_length in omega arith);
         kept = all_kept;
@@ -95,8 +95,8 @@ module _ (l : Layout) (code : List ℕ) (is-accepted : check_verdict l code (wor
       decide mine
       (λ y.
       ap₂ (λ (c : List ℕ) (n : ℕ). check_verdict l c n) (code_accepted y) (ap (λ (x : ℕ). x / 4) length_then)
-      ∙ (exactly_fresh l code is-accepted e.offset e.new fit).0 y)
-      (λ d. subst (λ (c : List ℕ). check_verdict l c (words_of c) ≡ accepted) (sym (all_kept d).0) is-accepted)
+      ∙ (exactly_fresh l code is_accepted e.offset e.new fit).0 y)
+      (λ d. subst (λ (c : List ℕ). check_verdict l c (words_of c) ≡ accepted) (sym (all_kept d).0) is_accepted)
 
   ledger_then_lem : ledger_then l code ledger e ≡ ledger_of l (code_then l code ledger e)
   ledger_then_lem =

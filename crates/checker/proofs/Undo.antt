@@ -72,8 +72,8 @@ module _ {l : Layout} {before : List ℕ} {first : ℕ} {old new after : List �
   off_fits =
       all_yes _ (length after)
       (λ j h.
-      let same-on : on (length after) j ≡ on n j = ap (λ (k : ℕ). on k j) g.same in
-      let same-off : off (length after) j ≡ off n j = ap (λ (k : ℕ). off k j) g.same in
+      let same_on : on (length after) j ≡ on n j = ap (λ (k : ℕ). on k j) g.same in
+      let same_off : off (length after) j ≡ off n j = ap (λ (k : ℕ). off k j) g.same in
       let count = count_after j (omega arith) in
       let most = off_counted j (omega arith) in
       let room = g.within.most j (omega arith) in
@@ -81,14 +81,14 @@ module _ {l : Layout} {before : List ℕ} {first : ℕ} {old new after : List �
       le-leb _ _ fits)
 
   pub undone : (last : List ℕ) (ok : Bool) (s : ℕ) → length last ≡ length after → Exchanges l new old first after last ok s → last ≡ before
-  undone last ok s l-length y =
-      ext_get_or 0 last before (l-length ∙ g.same)
+  undone last ok s l_length y =
+      ext_get_or 0 last before (l_length ∙ g.same)
       (λ i h.
-      let here : i < n = subst (λ (k : ℕ). i < k) (l-length ∙ g.same) h in
+      let here : i < n = subst (λ (k : ℕ). i < k) (l_length ∙ g.same) h in
       let there = (g.moved.yes' refl).moved i here in
       let back = (y.yes' whole).moved i (omega arith) in
-      let same-on : on (length after) i ≡ on n i = ap (λ (k : ℕ). on k i) g.same in
-      let same-off : off (length after) i ≡ off n i = ap (λ (k : ℕ). off k i) g.same in
+      let same_on : on (length after) i ≡ on n i = ap (λ (k : ℕ). on k i) g.same in
+      let same_off : off (length after) i ≡ off n i = ap (λ (k : ℕ). off k i) g.same in
       omega arith)
     where
       whole : ok ≡ true

@@ -83,7 +83,7 @@ patch_verdict l ledger offset old new =
     (cond (not (shape_holds (length ledger) offset old new)) (refused 12) (bundles_verdict l ledger (offset / 4) old new)))
 
 -- what the patch promises: the verdict, every entry of the ledger and every byte of the old bundles afterwards
-pub record Patched (l : Layout) (ledger : List ℕ) (offset : ℕ) (old new after oldAfter : List ℕ) (r : Outcome) : Type 0 where
+pub record Patched (l : Layout) (ledger : List ℕ) (offset : ℕ) (old new after old_after : List ℕ) (r : Outcome) : Type 0 where
   pub verdict : verdict_of r ≡ patch_verdict l ledger offset old new
   pub ledger' : after ≡ ledger_after (patch_verdict l ledger offset old new) (moved_ledger l ledger (offset / 4) old new) ledger
-  pub bytes : oldAfter ≡ ledger_after (patch_verdict l ledger offset old new) new old
+  pub bytes : old_after ≡ ledger_after (patch_verdict l ledger offset old new) new old

@@ -25,17 +25,17 @@ module _ (l : Layout) (n : ℕ) where
 
   -- the role of the word that a target lands on
   unfoldable pub target_role : (ℕ → ℕ) → Place → ℕ
-  target_role roleOf place = cond (ltb (landing_of l n place) n) (roleOf (landing_of l n place)) plain
+  target_role role_of place = cond (ltb (landing_of l n place) n) (role_of (landing_of l n place)) plain
 
   -- the lowest number that word k of the bytes breaks, or 0
   unfoldable pub fault_at : (ℕ → ℕ) → List ℕ → ℕ → ℕ → ℕ
-  fault_at roleOf bytes first k =
-      fault_of l n (before_at bytes k) (reading_at bytes k) (next_at bytes k) (k % 4) (address_of l (first + k)) (target_role roleOf (target_at bytes first k))
+  fault_at role_of bytes first k =
+      fault_of l n (before_at bytes k) (reading_at bytes k) (next_at bytes k) (k % 4) (address_of l (first + k)) (target_role role_of (target_at bytes first k))
 
   -- word k of the bytes breaks the rule of this number
   unfoldable pub breaks_at : (ℕ → ℕ) → List ℕ → ℕ → ℕ → ℕ → Bool
-  breaks_at roleOf bytes first k number =
-      breaks l n (before_at bytes k) (reading_at bytes k) (next_at bytes k) (k % 4) (address_of l (first + k)) (target_role roleOf (target_at bytes first k)) number
+  breaks_at role_of bytes first k number =
+      breaks l n (before_at bytes k) (reading_at bytes k) (next_at bytes k) (k % 4) (address_of l (first + k)) (target_role role_of (target_at bytes first k)) number
 
 -- the roles of a region of which these bundles are at hand: theirs inside, and the ledger's outside
 unfoldable pub role_from : List ℕ → List ℕ → ℕ → ℕ → ℕ

@@ -171,7 +171,7 @@ is_register_branch w = eqb (bits w 27 4) 0x12_FFF1 || eqb (bits w 27 4) 0x12_FFF
 abbrev pub register_branch_kind : ℕ → Kind
 register_branch_kind w = RegisterBranch (bits w 5 5) (rm_of w)
 
--- ---- Why a word is in no class: condition 15, system call (bits 27..24 = 15), register_indexed access (bits 27..25 = 011 with
+-- ---- Why a word is in no class: condition 15, system call (bits 27..24 = 15), register-indexed access (bits 27..25 = 011 with
 -- bit 4 = 0), or unlisted, in that order where several hold
 unfoldable pub why_of : ℕ → Why
 why_of w =

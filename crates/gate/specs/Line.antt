@@ -17,6 +17,6 @@ line_of (refused_at number at) bytes = ascii "refused " ++ numeral number ++ asc
 line_of (no_class why at) bytes = ascii "refused " ++ numeral 4 ++ ascii " at " ++ numeral at ++ ascii "\n"
 
 -- what `line` promises: the check's ledger, and the line of its verdict at the start of the buffer
-pub record Lined (code ledger out ledgerAfter' outAfter : List ℕ) (end : ℕ) : Type 0 where
-  pub entries : ledgerAfter' ≡ ledger_after (check_verdict paper_layout code (length ledger)) (ledger_of paper_layout code) ledger
-  pub text : Puts out 0 (line_of (check_verdict paper_layout code (length ledger)) (length code)) outAfter end
+pub record Lined (code ledger out ledger_after' out_after : List ℕ) (end : ℕ) : Type 0 where
+  pub entries : ledger_after' ≡ ledger_after (check_verdict paper_layout code (length ledger)) (ledger_of paper_layout code) ledger
+  pub text : Puts out 0 (line_of (check_verdict paper_layout code (length ledger)) (length code)) out_after end

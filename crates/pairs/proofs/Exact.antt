@@ -11,7 +11,7 @@ use Rattle.decoder.proofs.Others.{from_data}
 use Rattle.pairs.specs.Mask.{has_top, has_place, immediate_of, cleared_bits, is_data_mask, is_branch_mask, tested_bits, is_test}
 use Rattle.pairs.specs.Exact.{data_mask_value, branch_mask_value, exact_fields, is_exact_mask}
 
-module _ (r : ℕ) (not-9 : r ≡ 9 → ⊥) (not-15 : r ≡ 15 → ⊥) (k : Kind) where
+module _ (r : ℕ) (not_9 : r ≡ 9 → ⊥) (not_15 : r ≡ 15 → ⊥) (k : Kind) where
   exact_clears : (value : ℕ) → is_exact_mask value r k ≡ true → cleared_bits r k ≡ value
   unfolding is_exact_mask cleared_bits
   exact_clears value e =
@@ -19,7 +19,7 @@ module _ (r : ℕ) (not-9 : r ≡ 9 → ⊥) (not-15 : r ≡ 15 → ⊥) (k : Ki
       let f = d.0 in
       let is = each (eqb f.operation 14) (eqb f.s 0 ∷ eqb f.rd r ∷ eqb f.rn r ∷ eqb (immediate_of f.operand) value ∷ []) d.2 in
       let rn = eqb-true f.rn r (is 3) in
-      ap (cleared_bits r) d.1 ∙ simp (is 0, is 1, is 2, ne_eqb f.rn 9 (λ p. not-9 (sym rn ∙ p)), ne_eqb f.rn 15 (λ p. not-15 (sym rn ∙ p))) (eqb-true _ _ (is 4))
+      ap (cleared_bits r) d.1 ∙ simp (is 0, is 1, is 2, ne_eqb f.rn 9 (λ p. not_9 (sym rn ∙ p)), ne_eqb f.rn 15 (λ p. not_15 (sym rn ∙ p))) (eqb-true _ _ (is 4))
 
   pub exact_data_mask : is_exact_mask data_mask_value r k ≡ true → is_data_mask r k ≡ true
   unfolding is_data_mask data_mask_value

@@ -99,7 +99,7 @@ module _ (l : Layout) (n : ℕ) (before word next : Reading) (slot address role 
   unfolding rules_of
   eight = refl
 
-  pub fault_none : (breaks-none : (number : ℕ) → broken number ≡ false) → fault ≡ 0
+  pub fault_none : (breaks_none : (number : ℕ) → broken number ≡ false) → fault ≡ 0
   unfolding fault_of
   fault_none h =
       search_list rs (λ none. none_lowest 4 rs none) (λ place f. absurd (true≢false (sym (first_broken place f) ∙ h (4 + place))))

@@ -47,7 +47,7 @@ pub record Points : Type 0 where
   pub disagreement_13 : number_of (reason_verdict Disagreement) ≡ 13
   -- outcome::carries_address
   pub patch_shape_alone : carries_address (reason_verdict PatchShape) ≡ false
-  pub stranded_at_lem : carries_address (reason_verdict (Stranded 131092)) ≡ true
+  pub stranded_at : carries_address (reason_verdict (Stranded 131092)) ≡ true
   -- outcome::address
   pub stranded_address : place_of (reason_verdict (Stranded 131092)) ≡ 131092
   pub patch_shape_address : place_of (reason_verdict PatchShape) ≡ 0

@@ -20,7 +20,7 @@ pub record Exchanges (l : Layout) (old new : List ℕ) (first : ℕ) (before aft
   pub no' : ok ≡ false → after ≡ before
 
 -- the patch of bundles that stand in the region
-pub record PatchedWords (l : Layout) (ledger : List ℕ) (first : ℕ) (old new after oldAfter : List ℕ) (r : Outcome) : Type 0 where
+pub record PatchedWords (l : Layout) (ledger : List ℕ) (first : ℕ) (old new after old_after : List ℕ) (r : Outcome) : Type 0 where
   pub verdict : verdict_of r ≡ bundles_verdict l ledger first old new
   pub ledger' : after ≡ ledger_after (bundles_verdict l ledger first old new) (moved_ledger l ledger first old new) ledger
-  pub bytes : oldAfter ≡ ledger_after (bundles_verdict l ledger first old new) new old
+  pub bytes : old_after ≡ ledger_after (bundles_verdict l ledger first old new) new old
