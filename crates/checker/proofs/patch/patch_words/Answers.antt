@@ -1,33 +1,32 @@
 -- The tests that led to each `return` say which case of the definition holds, and a refusal has undone what it moved.
-use Rattle.std.proofs.Common.{ℕ, ◌≡◌, Bool, true, List, length}
+use Rattle.std.proofs.Common.{not, ℕ, ◌≡◌, Bool, false, List, length}
 use mathlib.Core.Path.{◌∙◌, sym, ap, subst}
 use borrow.Author.Tests.{not-true, not-false}
-use Rattle.rules.specs.declared.layout.Layout.{Layout}
 use Rattle.rules.specs.Outcome.{refusal_of}
-use Rattle.checker.specs.Patch.{counts_hold, roles_agree}
 use Rattle.checker.specs.parts.Patch.{Exchanges, PatchedWords}
-use Rattle.checker.specs.parts.Stands.{BothStand}
 use Rattle.checker.proofs.Exchange.{counts_within}
 use Rattle.checker.proofs.Undo.{Agreed, within_after, undone}
 use Rattle.checker.proofs.Patches.{disagreed, counts_disagree, roles_disagree, exchange_says, back_stands, fault_asks, faulty, stranded, patched, ledger_moved}
 use Rattle.checker.proofs.patch.patch_words.Goals as goal
+use Rattle.checker.proofs.patch.patch_words.Goals.{Else-not-roles_agree}
 
--- what the tests that pass 13 tell
-agreed : {l : Layout} {ledger : List ℕ} {first : ℕ} {old new after : List ℕ} {ok : Bool} {strand : ℕ}
-    → BothStand l (length ledger) old new first
-    → counts_hold ledger ≡ true
-    → roles_agree ledger old first ≡ true
-    → length after ≡ length ledger
-    → Exchanges l old new first ledger after ok strand
-    → ok ≡ true
-    → Agreed l ledger first old new after strand
-agreed {l = l} {ledger = ledger} {first = first} {old = old} {new = new} {after = after} {ok = ok} {strand = strand} stand counts roles same moved yes' =
+-- 13 is passed, once the branches are exchanged
+agreed : (c : Else-not-roles_agree) {after : List ℕ} {ok : Bool} {strand : ℕ}
+    → length after ≡ length c.args.ledger.now
+    → Exchanges c.args.layout c.args.old.now c.args.new.now c.args.first c.args.ledger.now after ok strand
+    → not ok ≡ false
+    → Agreed c.args.layout c.args.ledger.now c.args.first c.args.old.now c.args.new.now after strand
+agreed c {after = after} {ok = ok} {strand = strand} same moved e =
+    let a = c.args in
+    let counts = sym c.counts_hold.ensures ∙ c.if-not-counts_hold.false in
+    let roles = sym c.roles_agree.ensures ∙ c.if-not-roles_agree.false in
+    let yes' = not-false ok e in
     record {
-      stand = stand;
-      within = counts_within ledger counts;
-      agreed = sym (exchange_says l ledger first old new counts roles) ∙ sym moved.answer ∙ yes';
+      stand = c.requires;
+      within = counts_within a.ledger.now counts;
+      agreed = sym (exchange_says a.layout a.ledger.now a.first a.old.now a.new.now counts roles) ∙ sym moved.answer ∙ yes';
       same = same;
-      moved = subst (λ (ok : Bool). Exchanges l old new first ledger after ok strand) yes' moved;
+      moved = subst (λ (ok : Bool). Exchanges a.layout a.old.now a.new.now a.first a.ledger.now after ok strand) yes' moved;
     }
 
 pub returns-then-not-counts_hold : goal.returns-then-not-counts_hold
@@ -58,19 +57,19 @@ returns-then-not-exchanged c =
 pub exchange-requires : goal.exchange-requires
 exchange-requires c =
     let x = c.exchange-exchanged in
-    let g = agreed c.requires (sym c.counts_hold.ensures ∙ c.if-not-counts_hold.false) (sym c.roles_agree.ensures ∙ c.if-not-roles_agree.false) x.auto.ledger x.ensures (not-false x.result.ok c.if-not-exchanged.false) in
+    let g = agreed (goal.at.exchange-requires c).Else-not-roles_agree x.auto.ledger x.ensures c.if-not-exchanged.false in
     (back_stands g, within_after g)
 
 pub reason-requires : goal.reason-requires
 reason-requires c =
     let x = c.exchange-exchanged in
-    let g = agreed c.requires (sym c.counts_hold.ensures ∙ c.if-not-counts_hold.false) (sym c.roles_agree.ensures ∙ c.if-not-roles_agree.false) x.auto.ledger x.ensures (not-false x.result.ok c.if-not-exchanged.false) in
+    let g = agreed (goal.at.reason-requires c).Else-not-roles_agree x.auto.ledger x.ensures c.if-not-exchanged.false in
     fault_asks g c.first_fault-found.ensures c.if-number-ne0.true _ c.reading_at.ensures
 
 pub returns-then-number-ne0 : goal.returns-then-number-ne0
 returns-then-number-ne0 c =
     let x = c.exchange-exchanged in
-    let g = agreed c.requires (sym c.counts_hold.ensures ∙ c.if-not-counts_hold.false) (sym c.roles_agree.ensures ∙ c.if-not-roles_agree.false) x.auto.ledger x.ensures (not-false x.result.ok c.if-not-exchanged.false) in
+    let g = agreed (goal.at.returns-then-number-ne0 c).Else-not-roles_agree x.auto.ledger x.ensures c.if-not-exchanged.false in
     let f = c.first_fault-found in
     let word = c.reading_at in
     faulty g f.ensures c.if-number-ne0.true word.result word.ensures c.reason.result _ (c.reason.ensures ∙ ap (refusal_of word.result.kind f.result.number) c.address-at.ensures)
@@ -79,19 +78,19 @@ returns-then-number-ne0 c =
 pub exchange-requires-then-strand-new : goal.exchange-requires-then-strand-new
 exchange-requires-then-strand-new c =
     let x = c.exchange-exchanged in
-    let g = agreed c.requires (sym c.counts_hold.ensures ∙ c.if-not-counts_hold.false) (sym c.roles_agree.ensures ∙ c.if-not-roles_agree.false) x.auto.ledger x.ensures (not-false x.result.ok c.if-not-exchanged.false) in
+    let g = agreed (goal.at.exchange-requires-then-strand-new c).Else-not-roles_agree x.auto.ledger x.ensures c.if-not-exchanged.false in
     (back_stands g, within_after g)
 
 pub returns-then-strand-new : goal.returns-then-strand-new
 returns-then-strand-new c =
     let x = c.exchange-exchanged in
-    let g = agreed c.requires (sym c.counts_hold.ensures ∙ c.if-not-counts_hold.false) (sym c.roles_agree.ensures ∙ c.if-not-roles_agree.false) x.auto.ledger x.ensures (not-false x.result.ok c.if-not-exchanged.false) in
+    let g = agreed (goal.at.returns-then-strand-new c).Else-not-roles_agree x.auto.ledger x.ensures c.if-not-exchanged.false in
     let back = c.exchange-then-strand-new in
     stranded g c.first_fault-found.ensures c.if-number-ne0.false c.if-strand-new.true c.address-at-then-strand-new.result c.address-at-then-strand-new.ensures _ (undone g _ _ _ back.auto.ledger back.ensures)
 
 pub returns : goal.returns
 returns c =
     let x = c.exchange-exchanged in
-    let g = agreed c.requires (sym c.counts_hold.ensures ∙ c.if-not-counts_hold.false) (sym c.roles_agree.ensures ∙ c.if-not-roles_agree.false) x.auto.ledger x.ensures (not-false x.result.ok c.if-not-exchanged.false) in
+    let g = agreed (goal.at.returns c).Else-not-roles_agree x.auto.ledger x.ensures c.if-not-exchanged.false in
     let roles = c.write_roles in
     patched g c.first_fault-found.ensures c.if-number-ne0.false c.if-strand-new.false _ _ (ledger_moved g _ roles.auto.ledger roles.ensures) c.copy.ensures
