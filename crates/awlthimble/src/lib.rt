@@ -38,8 +38,7 @@ fn layout(code_start: u32, trampoline_first: u32, trampoline_end: u32, test_pair
 }
 
 // The check.
-#[unsafe(no_mangle)]
-pub extern "C" fn awl_check(
+pub fn awl_check(
     code_start: u32,
     trampoline_first: u32,
     trampoline_end: u32,
@@ -54,8 +53,7 @@ pub extern "C" fn awl_check(
 }
 
 // The patch.
-#[unsafe(no_mangle)]
-pub extern "C" fn awl_patch(
+pub fn awl_patch(
     code_start: u32,
     trampoline_first: u32,
     trampoline_end: u32,

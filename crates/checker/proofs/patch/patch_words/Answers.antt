@@ -1,5 +1,5 @@
 -- The tests that led to each `return` say which case of the definition holds, and a refusal has undone what it moved.
-use Rattle.std.proofs.Common.{not, ℕ, ◌≡◌, Bool, false, List, length}
+use Rattle.std.proofs.Common.{rules, not, ℕ, ◌≡◌, Bool, false, List, length}
 use mathlib.Core.Path.{◌∙◌, sym, ap, subst}
 use borrow.Author.Tests.{not-true, not-false}
 use Rattle.rules.specs.Outcome.{refusal_of}
@@ -41,7 +41,7 @@ returns-then-not-roles_agree c =
     (roles_disagree a.layout a.ledger.now a.first a.old.now a.new.now (sym c.counts_hold.ensures ∙ c.if-not-counts_hold.false) (sym c.roles_agree.ensures ∙ c.if-not-roles_agree.true))
 
 pub exchange-exchanged-requires : goal.exchange-exchanged-requires
-exchange-exchanged-requires c = (c.requires, counts_within c.args.ledger.now (sym c.counts_hold.ensures ∙ c.if-not-counts_hold.false))
+exchange-exchanged-requires c = (search rules, counts_within c.args.ledger.now (sym c.counts_hold.ensures ∙ c.if-not-counts_hold.false))
 
 pub returns-then-not-exchanged : goal.returns-then-not-exchanged
 returns-then-not-exchanged c =
