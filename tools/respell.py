@@ -1,11 +1,12 @@
 #!/usr/bin/env python3
 """Brings this repository's own definitions and lemmas to today's spelling: words in snake case.
 
-usage: python3 tools/respell.py [--dry]      at the top of the checkout, once, after the toolchain's own port script
+usage: python3 tools/respell.py [--dry] [--list]      at the top of the checkout, once, after the toolchain's own port script
 
 Names are those that a file of specs/ or proofs/ declares, with capitals inside or dashes, and the variables and aliases of those
-files. A lemma that would fall together with a definition is told apart by `_lem`. Respelled are .antt files and the clauses and
-imports of .rt files; functions, strings, the prose of comments, must-fail edits and pages are left alone, and so are the
+files. A lemma that would fall together with a definition is told apart by `_lem`. In clauses a definition goes by its own name,
+where an alias kept it apart from the function of that name. Respelled are .antt files and the clauses and imports of .rt files;
+functions, strings, the prose of comments, must-fail edits and pages are left alone, and so are the
 constructors of `Class`, which would fall together with definitions.
 """
 import collections
@@ -25,7 +26,6 @@ ALONE = {
     "crates/rules/proofs/Points.antt": {"stranded_at_lem": "stranded_at"},
     "crates/pairs/proofs/Unique.antt": {"role_after_lem": "role_after"},
 }
-ALSO = {"names-r": "names_r"}
 
 
 def files():
@@ -74,7 +74,7 @@ def renaming(names):
             for n in lemmas:
                 new[n] = end + "_lem"
                 print(f"respell: {n} is {end}_lem beside the definition {end}")
-    return new | ALSO
+    return new
 
 
 def respell(text, new):
@@ -109,7 +109,9 @@ def definitions(path, text, new):
 
 def source(text, new):
     """Only clauses, imports of definitions and comments of a .rt file have these names, with capitals or dashes; a function's name has
-    neither. Strings are left."""
+    neither. Strings are left. Aliases go."""
+    for name, alias in re.findall(r"([\w-]+) as «([^»]+)»", text):
+        text = text.replace(f"{name} as «{alias}»", name).replace(f"«{alias}»", name)
     old = {name: end for name, end in new.items() if not re.fullmatch(r"[a-z0-9_]+", name)}
     parts = re.split(r'("(?:[^"\\]|\\.)*")', text)
     return "".join(p if p.startswith('"') else respell(p, old) for p in parts)

@@ -1,4 +1,4 @@
-// The C interface: the calls again, on numbers and slices. A slice is a pointer and a length there.
+// The C interface's calls: the two again, on numbers and slices. A slice is a pointer and a length in C.
 // An answer is one number: 0 where accepted; else bits 7..0 are the refusal's number, bits 15..8 say why
 // where that is 4, and the high 32 bits are its address, 0 where it has none. All other bits are 0.
 #![tactic(auto)]

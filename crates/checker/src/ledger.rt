@@ -73,7 +73,7 @@ pub(crate) fn landing_at(
 
 // One landing put on word j, or taken off it, if there is such a word. False where its count is at its
 // bound: the number of words, or 0.
-#[tactic(auto, using(crate::proofs::Moving::one_nowhere, crate::proofs::Moving::one_refused, crate::proofs::Moving::one_moved))]
+#[tactic(auto, using(crate::proofs::Moving::one_nowhere, crate::proofs::Moving::one_refused))]
 fn move_landing(ledger: &mut [u32], j: usize, on: bool) -> bool
     requires { (length ledger.old ≤ 2 ^ 29) × (Within ledger.old) }
     ensures { Moved on (one_on j) ledger.old ledger.new result }

@@ -1,6 +1,6 @@
 // The words, readings and roles of a slice of bytes.
 ghost use Rattle.std.specs.Prelude.{◌≡◌, ◌+◌, ◌*◌, ◌%◌, ◌≤◌, ◌<◌, length};
-ghost use Rattle.decoder.specs.Bundle.{blank as «blank-reading»};
+ghost use Rattle.decoder.specs.Bundle.{blank};
 ghost use Rattle.checker.specs.Region.{word_at, bundle_at, reading_at, before_at, next_at, role_at};
 
 use decoder::bundle::{reading, readings};
@@ -53,7 +53,7 @@ pub(crate) fn reading_at(bytes: &[u8], k: usize) -> Reading
 
 // A blank reading stands where a bundle has no word.
 fn blank() -> Reading
-    ensures { result ≡ «blank-reading» }
+    ensures { result ≡ blank }
 {
     Reading {
         condition: 0,

@@ -1,6 +1,6 @@
 // What is asked of a reading's kind. The rules look at the answers and never at the kind.
 ghost use Rattle.std.specs.Prelude.{◌≡◌};
-ghost use Rattle.decoder.specs.Question.{operand_names, multiply_names, moved_names, register_list, names as «names_r», base_of, branch_register, writes_sp, keeps_flags, takes_sp, is_call, in_no_class, why_number, transfer_bytes};
+ghost use Rattle.decoder.specs.Question.{operand_names, multiply_names, moved_names, register_list, names, base_of, branch_register, writes_sp, keeps_flags, takes_sp, is_call, in_no_class, why_number, transfer_bytes};
 
 use crate::access::list_names;
 use crate::reading::{Kind, Moved, MultiplyFields, Operand, Why};
@@ -83,7 +83,7 @@ fn register_list(moved: Moved) -> u32
 // A register field of the word is r, or its list names r; a literal load's base is left out.
 #[tactic(auto, unfolding(crate::specs::Question::names))]
 pub fn names(r: u32, kind: Kind) -> bool
-    ensures { result ≡ «names_r» r kind }
+    ensures { result ≡ names r kind }
 {
     match kind {
         Kind::Data(fields) => {
@@ -219,7 +219,7 @@ pub fn why_number(why: Why) -> u32
 }
 
 // The bytes that a multiple transfer moves, and 0 of every other kind.
-#[tactic(auto, unfolding(crate::specs::Question::transfer_bytes, crate::specs::Question::named_below))]
+#[tactic(auto, unfolding(crate::specs::Question::transfer_bytes))]
 pub fn transfer_bytes(kind: Kind) -> u32
     ensures { result ≡ transfer_bytes kind }
 {

@@ -1,7 +1,7 @@
 // The line for a region.
 ghost use Rattle.std.specs.Prelude.{ℕ, ◌≤◌, ◌≡◌, length};
 ghost use Rattle.io.specs.Counts.{IsPrefixLen};
-ghost use Rattle.rules.specs.Outcome.{accepted as «accepted-verdict», reason_verdict};
+ghost use Rattle.rules.specs.Outcome.{accepted, reason_verdict};
 ghost use Rattle.gate.specs.Text.{Puts};
 ghost use Rattle.gate.specs.Line.{paper_layout, line_of, Lined};
 
@@ -23,7 +23,7 @@ fn layout() -> Layout
 
 fn put_accepted(out: &mut [u8], bytes: usize) -> usize
     requires { 64 ≤ length out.old }
-    ensures { Puts out.old 0 (line_of «accepted-verdict» bytes) out.new result }
+    ensures { Puts out.old 0 (line_of accepted bytes) out.new result }
 {
     let word = put(out, 0, b"accepted ");
     let size = put_number(out, word, bytes as u64);

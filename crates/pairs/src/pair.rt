@@ -1,7 +1,7 @@
 // The four pairs. Each function takes the readings of two adjacent words of one bundle.
 ghost use Rattle.std.specs.Prelude.{◌≡◌};
 ghost use Rattle.decoder.specs.Question.{base_of};
-ghost use Rattle.pairs.specs.Pair.{can_be_guarded, mask_guards, test_guards, branch_guards, closes as «closes-sp», is_pair};
+ghost use Rattle.pairs.specs.Pair.{can_be_guarded, mask_guards, test_guards, branch_guards, closes, is_pair};
 
 use crate::mask::{is_branch_mask, is_data_mask, is_test};
 use decoder::question::{NO_REGISTER, PC, SP, base, branch_register, keeps_flags, writes_sp};
@@ -64,7 +64,7 @@ pub fn branch_guards(first: Reading, second: Reading) -> bool
 // A write of r13, closed by a data mask of r13.
 #[tactic(auto, unfolding(crate::specs::Pair::closes))]
 pub fn closes(first: Reading, second: Reading) -> bool
-    ensures { result ≡ «closes-sp» first second }
+    ensures { result ≡ closes first second }
 {
     let write = first.kind;
     let mask = second.kind;

@@ -1,7 +1,7 @@
 // Rules 4 to 11, each a yes where the word breaks it, and the lowest number that it breaks. before and
 // next are the words beside it in its bundle.
 ghost use Rattle.std.specs.Prelude.{◌≡◌};
-ghost use Rattle.rules.specs.Rule.{rule4 as «r4», rule5 as «r5», rule6 as «r6», wants_guard, rule7 as «r7», rule8 as «r8», rule9 as «r9», literal_holds, rule10 as «r10», word_at_address, landing_of, in_trampolines, landable as «can-land», rule11 as «r11», rules_of, lowest_from, fault_of};
+ghost use Rattle.rules.specs.Rule.{rule4, rule5, rule6, wants_guard, rule7, rule8, rule9, literal_holds, rule10, word_at_address, landing_of, in_trampolines, landable, rule11, rules_of, lowest_from, fault_of};
 
 use crate::layout::Layout;
 use decoder::place::{Place, direct_target, literal};
@@ -17,7 +17,7 @@ use pairs::role::{HEAD, PLAIN};
 // 4: the word is in no class.
 #[tactic(auto, unfolding(crate::specs::Rule::rule4))]
 pub fn rule4(kind: Kind) -> bool
-    ensures { result ≡ «r4» kind }
+    ensures { result ≡ rule4 kind }
 {
     in_no_class(kind)
 }
@@ -25,7 +25,7 @@ pub fn rule4(kind: Kind) -> bool
 // 5: a register field is 9, or is 15 other than a literal load's base.
 #[tactic(auto, unfolding(crate::specs::Rule::rule5))]
 pub fn rule5(kind: Kind) -> bool
-    ensures { result ≡ «r5» kind }
+    ensures { result ≡ rule5 kind }
 {
     names(THREAD, kind) | names(PC, kind)
 }
@@ -33,7 +33,7 @@ pub fn rule5(kind: Kind) -> bool
 // 6: r13 is written or named outside the rule of pairs.
 #[tactic(auto, unfolding(crate::specs::Rule::rule6))]
 pub fn rule6(word: Reading, next: Reading) -> bool
-    ensures { result ≡ «r6» word next }
+    ensures { result ≡ rule6 word next }
 {
     let kind = word.kind;
     if takes_sp(kind) {
@@ -55,7 +55,7 @@ fn wants_guard(r: u32) -> bool
 // 7: an access has no guard, or only a test guard with the switch off.
 #[tactic(auto, unfolding(crate::specs::Rule::rule7))]
 pub fn rule7(layout: Layout, before: Reading, word: Reading) -> bool
-    ensures { result ≡ «r7» layout before word }
+    ensures { result ≡ rule7 layout before word }
 {
     let kind = word.kind;
     if !wants_guard(base(kind)) {
@@ -67,7 +67,7 @@ pub fn rule7(layout: Layout, before: Reading, word: Reading) -> bool
 // 8: a register branch has no guard.
 #[tactic(auto, unfolding(crate::specs::Rule::rule8))]
 pub fn rule8(before: Reading, word: Reading) -> bool
-    ensures { result ≡ «r8» before word }
+    ensures { result ≡ rule8 before word }
 {
     let kind = word.kind;
     if !(branch_register(kind) < NO_REGISTER) {
@@ -79,7 +79,7 @@ pub fn rule8(before: Reading, word: Reading) -> bool
 // 9: a call isn't in slot 3.
 #[tactic(auto, unfolding(crate::specs::Rule::rule9))]
 pub fn rule9(kind: Kind, slot: u32) -> bool
-    ensures { result ≡ «r9» kind slot }
+    ensures { result ≡ rule9 kind slot }
 {
     is_call(kind) & !(slot == 3)
 }
@@ -100,7 +100,7 @@ fn literal_holds(layout: Layout, words: usize, a: u64) -> bool
 // 10: a literal load's four bytes aren't all in the code, or don't start at a multiple of 4.
 #[tactic(auto, unfolding(crate::specs::Rule::rule10))]
 pub fn rule10(layout: Layout, words: usize, place: Place) -> bool
-    ensures { result ≡ «r10» layout words place }
+    ensures { result ≡ rule10 layout words place }
 {
     match place {
         Place::Absent => false,
@@ -146,7 +146,7 @@ fn in_trampolines(layout: Layout, a: u64) -> bool
 // The roles that a direct branch may land on.
 #[tactic(auto, unfolding(crate::specs::Rule::landable))]
 pub fn landable(role: u32) -> bool
-    ensures { result ≡ «can-land» role }
+    ensures { result ≡ landable role }
 {
     (role == PLAIN) | (role == HEAD)
 }
@@ -155,7 +155,7 @@ pub fn landable(role: u32) -> bool
 // trampolines.
 #[tactic(auto, unfolding(crate::specs::Rule::rule11))]
 pub fn rule11(layout: Layout, words: usize, place: Place, role: u32) -> bool
-    ensures { result ≡ «r11» layout words place role }
+    ensures { result ≡ rule11 layout words place role }
 {
     match place {
         Place::Absent => false,
