@@ -1,6 +1,7 @@
 // The C interface's calls: the two again, on numbers and slices. A slice is a pointer and a length in C.
-// An answer is one number: 0 where accepted; else bits 7..0 are the refusal's number, bits 15..8 say why
-// where that is 4, and the high 32 bits are its address, 0 where it has none. All other bits are 0.
+// C has no `Layout` and no `Result`, so four parameters stand for the one, and one number for the other: 0
+// where accepted; else bits 7..0 are the refusal's number, bits 15..8 say why where that is 4, and the high
+// 32 bits are its address, 0 where it has none. All other bits are 0.
 #![tactic(auto)]
 
 ghost use Rattle.std.specs.Prelude.{◌≡◌};
@@ -10,18 +11,18 @@ ghost use Rattle.awlthimble.specs.Answer.{packed, layout_of, CheckAnswered, Patc
 use checker::check::check;
 use checker::patch::patch;
 use rules::layout::Layout;
-use rules::outcome::{Outcome, address, number, why};
+use rules::outcome::Reason;
 
 #[tactic(auto, unfolding(crate::specs::Answer::packed))]
-fn answer(outcome: Outcome) -> u64
-    ensures { result ≡ packed (verdict_of outcome) }
+fn packed(answer: Result<(), Reason>) -> u64
+    ensures { result ≡ packed (verdict_of answer) }
 {
-    match outcome {
-        Outcome::Accepted => 0,
-        Outcome::Refused(reason) => {
-            number(reason) as u64
-                + why(reason) as u64 * 0x100
-                + address(reason) as u64 * 0x1_0000_0000
+    match answer {
+        Ok(()) => 0,
+        Err(reason) => {
+            let why = reason.why().map_or(0, u32::from);
+            let address = reason.address().unwrap_or(0);
+            reason.number() as u64 + why as u64 * 0x100 + address as u64 * 0x1_0000_0000
         }
     }
 }
@@ -49,7 +50,7 @@ pub fn awl_check(
     ensures { CheckAnswered (layout_of code_start trampoline_first trampoline_end test_pairs) code.now ledger.old ledger.new result }
 {
     let layout = layout(code_start, trampoline_first, trampoline_end, test_pairs);
-    answer(check(layout, code, ledger))
+    packed(check(layout, code, ledger))
 }
 
 // The patch.
@@ -66,5 +67,5 @@ pub fn awl_patch(
     ensures { PatchAnswered (layout_of code_start trampoline_first trampoline_end test_pairs) ledger.old offset old_bundles.old new_bundles.now ledger.new old_bundles.new result }
 {
     let layout = layout(code_start, trampoline_first, trampoline_end, test_pairs);
-    answer(patch(layout, ledger, offset, old_bundles, new_bundles))
+    packed(patch(layout, ledger, offset, old_bundles, new_bundles))
 }

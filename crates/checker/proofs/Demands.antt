@@ -13,8 +13,9 @@ use lib.ListN.{length, get_or}
 use borrow.Author.Tests.{eq-eqb, ne_eqb, lt-ltb, le-ltb, ltb-true, ltb-false}
 use Rattle.decoder.specs.Question.{in_no_class}
 use Rattle.decoder.proofs.Bools.{by_test}
+use Rattle.std.specs.Prelude.{Result}
 use Rattle.rules.specs.declared.layout.Layout.{Layout}
-use Rattle.rules.specs.declared.outcome.Outcome.{Outcome}
+use Rattle.rules.specs.declared.outcome.Reason.{Reason}
 use Rattle.rules.specs.Layout.{layout_holds, length_holds, address_of}
 use Rattle.rules.specs.Outcome.{Verdict, accepted, refused, refused_at, no_class, verdict_of, number_of, carries_address, refusal_of}
 use Rattle.rules.proofs.Reasons.{verdict_tells}
@@ -25,7 +26,7 @@ use Rattle.checker.specs.Region.{reading_at, role_at}
 use Rattle.checker.specs.Standing.{landings, fault_at, breaks_at}
 use Rattle.checker.specs.Check.{words_of, code_fault, word_breaks, words_verdict, check_verdict, entry_of, ledger_of, ledger_after, Checked}
 use Rattle.checker.specs.Patch.{patch_verdict, Patched}
-use Rattle.checker.proofs.First.{first_to, first_hit, first_miss, first_none, found_at}
+use Rattle.checker.proofs.First.{first_to, first_hit, first_miss, first_none, first_is}
 use Rattle.checker.proofs.Lists.{list_length, list_at}
 
 -- a refusal is no acceptance
@@ -126,8 +127,7 @@ module _ (l : Layout) (code : List ℕ) where
   unfolding first
   broken_first k number b =
       let e = lowest_fault k number b.breaks' b.lowest' in
-      let found = found_at (code_fault l code) 0 (words_of code) k number b.inside (λ j h. ap (code_fault l code) (zero-add j) ∙ meets_fault j (b.below j h)) (sym e ∙ ap (code_fault l code) (sym (zero-add k))) (λ z. breaks_not_zero k number b.breaks' (e ∙ z)) in
-      (sym found.place ∙ zero-add k, e)
+      (first_is (code_fault l code) 0 (words_of code) k (omega arith) (let h = b.inside in omega arith) (λ j _ h. meets_fault j (b.below j h)) (λ z. breaks_not_zero k number b.breaks' z), e)
 
   words_accepted : (words_verdict l code ≡ accepted) ↔ AllMeet
   words_accepted = (
@@ -193,20 +193,20 @@ module _ (l : Layout) (code : List ℕ) where
 
 -- ---- Demand 1: what the check promises is one answer and one ledger, for all inputs
 
-pub check_unique : (l : Layout) (code before a b : List ℕ) (r s : Outcome) → Checked l code before a r → Checked l code before b s → (r ≡ s) × (a ≡ b)
+pub check_unique : (l : Layout) (code before a b : List ℕ) (r s : Result (Unit {0}) Reason) → Checked l code before a r → Checked l code before b s → (r ≡ s) × (a ≡ b)
 check_unique l code before a b r s p q = (verdict_tells r s (p.verdict ∙ sym q.verdict), p.ledger ∙ sym q.ledger)
 
 -- a refusal changes no entry
-pub refusal_keeps : (l : Layout) (code before after : List ℕ) (r : Outcome) → Checked l code before after r → (verdict_of r ≡ accepted → ⊥) → after ≡ before
+pub refusal_keeps : (l : Layout) (code before after : List ℕ) (r : Result (Unit {0}) Reason) → Checked l code before after r → (verdict_of r ≡ accepted → ⊥) → after ≡ before
 refusal_keeps l code before after r p d = p.ledger ∙ after_refusal (check_verdict l code (length before)) _ _ (λ e. d (p.verdict ∙ e))
 
 -- and so for the patch: one answer, one ledger and one state of the old bytes
 module _ (l : Layout) (ledger : List ℕ) (offset : ℕ) (old new : List ℕ) where
-  pub patch_unique : (a b s t : List ℕ) (r q : Outcome) → Patched l ledger offset old new a s r → Patched l ledger offset old new b t q → (r ≡ q) × (a ≡ b) × (s ≡ t)
+  pub patch_unique : (a b s t : List ℕ) (r q : Result (Unit {0}) Reason) → Patched l ledger offset old new a s r → Patched l ledger offset old new b t q → (r ≡ q) × (a ≡ b) × (s ≡ t)
   patch_unique a b s t r q x y = (verdict_tells r q (x.verdict ∙ sym y.verdict), x.ledger' ∙ sym y.ledger', x.bytes ∙ sym y.bytes)
 
   -- a refusal changes no entry and no byte
-  pub refused_patch_keeps : (after bytes : List ℕ) (r : Outcome) → Patched l ledger offset old new after bytes r → (verdict_of r ≡ accepted → ⊥) → (after ≡ ledger) × (bytes ≡ old)
+  pub refused_patch_keeps : (after bytes : List ℕ) (r : Result (Unit {0}) Reason) → Patched l ledger offset old new after bytes r → (verdict_of r ≡ accepted → ⊥) → (after ≡ ledger) × (bytes ≡ old)
   refused_patch_keeps after bytes r p d =
       let no : patch_verdict l ledger offset old new ≡ accepted → ⊥ = λ e. d (p.verdict ∙ e) in
       (p.ledger' ∙ after_refusal _ _ _ no, p.bytes ∙ after_refusal _ _ _ no)

@@ -2,20 +2,23 @@
 use Prim.Native.Nat.{ℕ, ◌+◌, ◌-◌, ◌*◌, ◌/◌, ◌≤◌, ◌<◌}
 use native.Mathlib.Omega.{arith}
 use mathlib.Core.Path.{◌≡◌, ◌∙◌, sym, ap, subst}
-use mathlib.Core.Bool.{Bool, true, false, ◌&&◌, true≢false, false≢true}
+use mathlib.Core.Bool.{Bool, true, false, ◌&&◌}
 use mathlib.Core.List.{List}
 use lib.Dec.{leb}
 use lib.ListN.{length, get_or}
 use borrow.Author.Tests.{leb-true}
+use Rattle.std.specs.Prelude.{Option}
 use Rattle.rules.specs.declared.layout.Layout.{Layout}
-use Rattle.checker.specs.Lists.{all, first_from}
+use Rattle.rules.specs.declared.outcome.Reason.{Reason}
+use Rattle.rules.specs.declared.outcome.Reason.TheVariants.{Disagreement}
+use Rattle.checker.specs.Lists.{all}
 use Rattle.checker.specs.Standing.{landings}
 use Rattle.checker.specs.parts.Ledger.{Within, fits, can_move, Moved}
 use Rattle.checker.specs.Patch.{counts_hold, old_counted, count_less, new_fit, stranded_at}
-use Rattle.checker.specs.parts.Patch.{count_at, Exchanges}
+use Rattle.checker.specs.parts.Patch.{count_at, Strands, Exchanged, Forbidden}
 use Rattle.checker.proofs.First.{first_same}
 use Rattle.checker.proofs.Lists.{all_same, all_at}
-use Rattle.checker.proofs.Moving.{within_then, moved_back}
+use Rattle.checker.proofs.Moving.{moved_back}
 
 pub counts_within : (ledger : List ℕ) → counts_hold ledger ≡ true → Within ledger
 unfolding counts_hold
@@ -40,21 +43,13 @@ module _ (l : Layout) (old new : List ℕ) (first : ℕ) (before mid : List ℕ)
   unfolding old_counted can_move fits
   counted = t.answer
 
-  pub uncounted : taken ≡ false → Exchanges l old new first before mid false 0
-  uncounted e =
-      record {
-        answer = ap (λ (b : Bool). b && new_fit l before old new first) (sym e ∙ counted);
-        yes' = λ f. absurd (false≢true f);
-        place = λ f. absurd (false≢true f);
-        no' = λ _. t.no' e;
-      }
+  module _ (reason : Reason) (says : reason ≡ Disagreement) where
+    pub uncounted : taken ≡ false → Forbidden l old new first before mid reason
+    uncounted e = record { answer = ap (λ (b : Bool). b && new_fit l before old new first) (sym counted ∙ e); same = t.no' e; says = says }
 
   module _ (w : Within before) (yes' : taken ≡ true) where
     all_off : Moved false off before mid true
     all_off = subst (λ (b : Bool). Moved false off before mid b) yes' t
-
-    pub within_mid : Within mid
-    within_mid = within_then false off before mid m_length all_off w
 
     less : (j : ℕ) → j < n → get_or mid j 0 / 4 ≡ count_less l before old first j
     unfolding count_less
@@ -69,35 +64,34 @@ module _ (l : Layout) (old new : List ℕ) (first : ℕ) (before mid : List ℕ)
         ap (λ (x : ℕ). all (λ j. leb (get_or mid j 0 / 4 + on x j) x) x) m_length
         ∙ all_same _ _ n (λ j h. ap (λ (x : ℕ). leb (x + on n j) n) (less j h))
 
-    module _ (after : List ℕ) (added : Bool) (a : Moved true (on (length mid)) mid after added)
-        (strand : ℕ) (s : strand ≡ first_from (stranded_at (count_at mid) new first) 0 (length new / 4)) (inside : first + length new / 4 ≤ n) where
+    module _ (after : List ℕ) (added : Bool) (a : Moved true (on (length mid)) mid after added) where
       answers : added ≡ (old_counted l before old first && new_fit l before old new first)
       answers = a.answer ∙ new_fit_lem ∙ ap (λ (b : Bool). b && new_fit l before old new first) (sym yes' ∙ counted)
 
-      pub exchanged : added ≡ true → Exchanges l old new first before after true strand
-      exchanged e =
+      pub exchanged : added ≡ true → (strand : Option ℕ) → Strands (count_at mid) new first strand → first + length new / 4 ≤ n → Exchanged l old new first before after strand
+      exchanged e strand s inside =
           record {
-            answer = sym e ∙ answers;
-            yes' = λ _.
-                record {
-                  moved = λ i h.
-                      let down = t.yes' yes' i h in
-                      let up = a.yes' e i (omega arith) in
-                      let same : on (length mid) i ≡ on n i = ap (λ (x : ℕ). on x i) m_length in
-                      omega arith;
-                };
-            place = λ _. s ∙ first_same _ _ 0 (length new / 4) (λ k p q. stranded_same (count_at mid) (count_less l before old first) new first k (less (first + k) (omega arith)));
-            no' = λ f. absurd (true≢false f);
+            allowed = sym answers ∙ e;
+            moved = λ i h.
+                let down = t.yes' yes' i h in
+                let up = a.yes' e i (omega arith) in
+                let same : on (length mid) i ≡ on n i = ap (λ (x : ℕ). on x i) m_length in
+                omega arith;
+            strands = record {
+              inside = s.inside;
+              place = s.place
+                  ∙ first_same _ _ 0 (length new / 4) (λ k p q. stranded_same (count_at mid) (count_less l before old first) new first k (less (first + k) (omega arith)));
+            };
           }
 
       -- no room for the new ones, so the old ones are put on again
-      pub kept_out : added ≡ false → (last : List ℕ) (r : Bool) → length last ≡ length after → Moved true (landings l (length after) old first (length old / 4)) after last r → Exchanges l old new first before last false strand
-      kept_out e last r l_length b =
+      pub kept_out : added ≡ false → (last : List ℕ) (r : Bool) → length last ≡ length after → Moved true (landings l (length after) old first (length old / 4)) after last r
+          → (reason : Reason) → reason ≡ Disagreement → Forbidden l old new first before last reason
+      kept_out e last r l_length b reason says =
           record {
-            answer = sym e ∙ answers;
-            yes' = λ f. absurd (false≢true f);
-            place = λ f. absurd (false≢true f);
-            no' = λ _.
+            answer = sym answers ∙ e;
+            same =
                 moved_back false off before mid m_length all_off w last r (l_length ∙ ap length (a.no' e))
                 (rw (← m_length) (subst (λ (x : List ℕ). Moved true (landings l (length x) old first (length old / 4)) x last r) (a.no' e) b));
+            says = says;
           }

@@ -1,15 +1,17 @@
--- The laws of `first_from`: it stays within its range, f is not zero where it stops short of the end and zero before, and a range may be cut.
-use Prim.Native.Nat.{ℕ, zero, suc, ◌+◌, ◌-◌, ◌≤◌, ◌<◌}
+-- The laws of `first_from`: it stays within its range, f is not zero where it stops short of the end and zero before, and nowhere else.
+use Prim.Native.Nat.{ℕ, zero, suc, ◌+◌, ◌≤◌, ◌<◌}
 use native.Mathlib.Nat.{add-zero, zero-add, suc-add, add-suc, le_refl}
+use native.Mathlib.Numerals.{add-one}
 use native.Mathlib.Omega.{arith}
-use mathlib.Core.Path.{◌≡◌, ◌∙◌, refl, sym, ap, ap₂, subst}
-use mathlib.Core.Bool.{cond}
+use mathlib.Core.Path.{◌≡◌, refl, sym, ap₂, subst}
+use mathlib.Core.Bool.{Bool, cond}
 use lib.Dec.{eqb}
-use borrow.Author.Tests.{eqb-true, eqb-false, eq-eqb, ne_eqb, lt-ltb, le-ltb}
+use borrow.Author.Tests.{eqb-true, eqb-false, eq-eqb, ne_eqb}
 use native.Mathlib.Decide.{ℕ_discrete}
+use Rattle.std.specs.Prelude.{IfSome, unwrap_or}
+use Rattle.std.specs.List.{find, range_with_len}
 use Rattle.decoder.proofs.Bools.{by_test}
 use Rattle.checker.specs.Lists.{first_from}
-use Rattle.checker.specs.parts.First.{First}
 use Rattle.checker.proofs.Lists.{split}
 
 module _ (f : ℕ → ℕ) where
@@ -52,34 +54,6 @@ module _ (f : ℕ → ℕ) where
       step (λ r. j < r → f j ≡ 0) i c (λ _ k'. absurd (omega arith))
       (λ e k'. elim (ℕ_discrete i j) [ yes p ↦ subst (λ (x : ℕ). f x ≡ 0) p e | no d ↦ later (omega arith) k' ]) k
 
-  -- what holds of a range holds of its first part, or goes on in the rest
-  pub first_cut : (i a c : ℕ) → first_from f i a ≡ i + a → first_from f i (a + c) ≡ first_from f (i + a) c
-  unfolding first_from
-  first_cut i zero c e = ap₂ (first_from f) (sym (add-zero i)) (zero-add c)
-  first_cut i (suc a) c e =
-      let later = first_cut (suc i) a c in
-      by_test (eqb (f i) 0)
-      (λ t.
-      let z = eqb-true (f i) 0 t in
-      ap (first_from f i) (suc-add a c)
-      ∙ first_past i (a + c) z
-      ∙ later (sym (first_past i a z) ∙ e ∙ add-suc i a ∙ sym (suc-add i a))
-      ∙ ap (λ (x : ℕ). first_from f x c) (suc-add i a ∙ sym (add-suc i a)))
-      (λ t. absurd (let h = first_here i a (eqb-false (f i) 0 t) in omega (arith, sym h ∙ e)))
-
-  pub first_kept : (i a c : ℕ) → first_from f i a < i + a → first_from f i (a + c) ≡ first_from f i a
-  unfolding first_from
-  first_kept i zero c h = absurd (omega arith)
-  first_kept i (suc a) c h =
-      let later = first_kept (suc i) a c in
-      ap (first_from f i) (suc-add a c)
-      ∙ by_test (eqb (f i) 0)
-      (λ t.
-      let z = eqb-true (f i) 0 t in
-      let p = first_past i a z in
-      first_past i (a + c) z ∙ later (omega (arith, p)) ∙ sym p)
-      (λ t. let n = eqb-false (f i) 0 t in first_here i (a + c) n ∙ sym (first_here i a n))
-
 -- functions that agree on the range have the same first
 pub first_same : (f g : ℕ → ℕ) (i c : ℕ) → ((j : ℕ) → i ≤ j → j < i + c → f j ≡ g j) → first_from f i c ≡ first_from g i c
 unfolding first_from
@@ -100,36 +74,20 @@ first_none f i c h =
     ]
 
 -- the first, from what f is at each place
-pub found_at : (f : ℕ → ℕ) (i c s number : ℕ) → s < c → ((j : ℕ) → j < s → f (i + j) ≡ 0) → number ≡ f (i + s) → (number ≡ 0 → ⊥) → First f i c (i + s) number
-found_at f i c s number h before e n =
+pub first_is : (f : ℕ → ℕ) (i c k : ℕ) → i ≤ k → k < i + c → ((j : ℕ) → i ≤ j → j < k → f j ≡ 0) → (f k ≡ 0 → ⊥) → first_from f i c ≡ k
+first_is f i c k from to before here =
     let r = first_from f i c in
     let low = first_from_lem f i c in
-    let same : i + s ≡ r =
-    split (i + s) r
-    (λ a. split r (i + s) (λ b. omega arith) (λ b. absurd (n (e ∙ first_miss f i c (i + s) (omega arith) b))))
-    (λ a. absurd (first_hit f i c (omega arith) (ap f (back i r low) ∙ before (r - i) (omega arith)))) in
-    record { place = same; value = e ∙ sym (simp (lt-ltb (i + s) (i + c) (omega arith))) }
-  where
-    back : (i r : ℕ) → i ≤ r → r ≡ i + (r - i)
-    back i r h = omega arith
+    split k r
+    (λ a. split r k (λ b. omega arith) (λ b. absurd (here (first_miss f i c k from b))))
+    (λ a. absurd (first_hit f i c (omega arith) (before r low a)))
 
-pub found_none : (f : ℕ → ℕ) (i c : ℕ) → ((j : ℕ) → j < c → f (i + j) ≡ 0) → First f i c (i + c) 0
-found_none f i c h =
-    record {
-      place = sym (first_none f i c (λ j a b. ap f (back i j a) ∙ h (j - i) (omega arith)));
-      value = sym (simp (le-ltb (i + c) (i + c) (le_refl (i + c))));
-    }
-  where
-    back : (i r : ℕ) → i ≤ r → r ≡ i + (r - i)
-    back i r h = omega arith
+-- and as a walk over the numbers finds it, where f is 14 exactly where the test passes
+module _ (p : ℕ → Bool) (f : ℕ → ℕ) (e : (k : ℕ) → f k ≡ cond (p k) 14 0) where
+  found_from : (i c : ℕ) → IfSome (find p (range_with_len i c)) (λ k. k < i + c) × (unwrap_or (find p (range_with_len i c)) (i + c) ≡ first_from f i c)
+  unfolding first_from
+  found_from i zero = (tt, add-zero i)
+  found_from i (suc c) = by_test (p i) (λ t. rw (e i, t) (omega arith, refl)) (λ t. rw (e i, t, add-one i, add-suc i c, ← suc-add i c) (found_from (suc i) c))
 
--- a first that is not the end, and one that is
-pub first_value : (f : ℕ → ℕ) (i c at number : ℕ) → First f i c at number → (number ≡ 0 → ⊥) → (at < i + c) × (number ≡ f at)
-first_value f i c at number e n =
-    split (i + c) at (λ h. absurd (n (e.value ∙ simp (le-ltb at (i + c) h)))) (λ h. (h, e.value ∙ simp (lt-ltb at (i + c) h)))
-
-pub first_end : (f : ℕ → ℕ) (i c at number : ℕ) → First f i c at number → number ≡ 0 → first_from f i c ≡ i + c
-first_end f i c at number e z =
-    let top = first_to f i c in
-    split (i + c) (first_from f i c) (λ h. omega arith)
-    (λ h. absurd (first_hit f i c h (ap f (sym e.place) ∙ sym (simp (lt-ltb at (i + c) (subst (λ (x : ℕ). x < i + c) (sym e.place) h)) at e.value) ∙ z)))
+  pub first_found : (n : ℕ) → IfSome (find p (range_with_len 0 n)) (λ k. k < n) × (unwrap_or (find p (range_with_len 0 n)) n ≡ first_from f 0 n)
+  first_found n = rw (zero-add n) at (found_from 0 n)

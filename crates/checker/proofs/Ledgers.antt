@@ -1,10 +1,13 @@
 -- Writing roles word by word, and runs of it one after the other.
 use Prim.Native.Nat.{ℕ, ◌+◌, ◌*◌, ◌/◌, ◌%◌, ◌≤◌, ◌<◌}
 use native.Mathlib.Omega.{arith}
-use mathlib.Core.Path.{◌≡◌, ◌∙◌, refl, sym, ap, subst}
-use mathlib.Core.List.{List}
-use lib.ListN.{length, get_or, set}
+use mathlib.Core.Path.{◌≡◌, ◌∙◌, sym, ap, subst}
+use mathlib.Core.List.{List, map}
+use lib.ListN.{length, get_or, set, get_or-map}
 use lib.Seq.{get_or-set_same, get_or-set_other}
+use Rattle.pairs.specs.declared.role.Role.{Role}
+use Rattle.pairs.specs.declared.role.Role.TheVariants.{Plain}
+use Rattle.pairs.specs.Numbers.{role_number}
 use Rattle.pairs.specs.Role.{roles_of}
 use Rattle.pairs.proofs.Roles.{role_small}
 use Rattle.checker.specs.Region.{bundle_at, role_at}
@@ -23,10 +26,14 @@ pub role_below : (bytes : List ℕ) (k : ℕ) → role_at bytes k < 4
 unfolding role_at
 role_below bytes k = role_small (bundle_at bytes (k / 4)) (k % 4)
 
-module _ (bytes : List ℕ) (first : ℕ) where
-  pub written_none : (k : ℕ) (l : List ℕ) → RolesWritten bytes first k k l l
-  written_none k l = record { below = λ i h. refl; inside = λ j a b. absurd (omega arith); above = λ i h. refl }
+-- a slot's role by its number, as the bundle has it
+pub slot_role : (bytes : List ℕ) (b slot number : ℕ) (roles : List Role) → map role_number roles ≡ roles_of (bundle_at bytes b) → slot < 4 → number ≡ role_number (get_or roles slot Plain)
+    → (number ≡ role_at bytes (4 * b + slot)) × (number < 4)
+slot_role bytes b slot number roles e h n =
+    let same = n ∙ sym (get_or-map role_number roles slot Plain) ∙ ap (λ (rs : List ℕ). get_or rs slot 0) e ∙ role_in_bundle bytes b slot h in
+    (same, let small = role_below bytes (4 * b + slot) in omega arith)
 
+module _ (bytes : List ℕ) (first : ℕ) where
   pub written_one : (k : ℕ) (l : List ℕ) → first + k < length l
       → RolesWritten bytes first k (k + 1) l (set l (first + k) (get_or l (first + k) 0 / 4 * 4 + role_at bytes k))
   written_one k l h =

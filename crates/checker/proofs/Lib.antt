@@ -2,6 +2,7 @@
 pub mod Words
 pub mod Lists
 pub mod First
+pub mod Faults
 pub mod Ledgers
 pub mod Moving
 pub mod Exchange

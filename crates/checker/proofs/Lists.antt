@@ -2,13 +2,16 @@
 use Prim.Native.Nat.{ℕ, zero, suc, ◌+◌, ◌-◌, ◌≤◌, ◌<◌}
 use native.Mathlib.Decide.{dec_le}
 use native.Mathlib.Nat.{add-zero, zero-add, add-suc, suc-add, not-suc-le-zero, le_of_suc-le-suc, le_refl, lt_of_not-le}
+use native.Mathlib.Numerals.{add-one}
 use native.Mathlib.Omega.{arith}
 use mathlib.Core.Path.{◌≡◌, ◌∙◌, refl, sym, ap, ap₂, subst}
 use mathlib.Core.Bool.{Bool, true, false, ◌&&◌, true≢false}
 use mathlib.Core.List.{List}
-use lib.ListN.{length, get_or, set}
-use lib.Seq.{ext_get_or, get_or-set_same, get_or-set_other}
-use borrow.Author.Count.{below_more}
+use lib.ListN.{length, get_or, take}
+use lib.Seq.{take-length, ext_get_or}
+use Rattle.std.specs.List.{list_all, range_with_len}
+use Rattle.std.proofs.lemmas.List.Folds.{list_all_more}
+use Rattle.std.proofs.lemmas.List.FromFn.{length-range_with_len, get_or-range_with_len}
 use Rattle.decoder.proofs.Bools.{both, by_test}
 use Rattle.checker.specs.Lists.{sum, all, list_from, list_of}
 
@@ -67,6 +70,21 @@ all_at f (suc n) e j h =
 pub all_no : (f : ℕ → Bool) (n j : ℕ) → j < n → f j ≡ false → all f n ≡ false
 all_no f n j h e = by_test (all f n) (λ t. absurd (true≢false (sym (all_at f n t j h) ∙ e))) (λ t. t)
 
+-- each place of a list passes, as a walk over it tells
+pub list_all_each : (p : ℕ → Bool) (xs : List ℕ) → list_all p xs ≡ all (λ j. p (get_or xs j 0)) (length xs)
+unfolding all
+list_all_each p xs = ap (list_all p) (sym (take-length xs)) ∙ upto (length xs) (le_refl (length xs))
+  where
+    upto : (n : ℕ) → n ≤ length xs → list_all p (take n xs) ≡ all (λ j. p (get_or xs j 0)) n
+    upto zero h = refl
+    upto (suc n) h = ap (λ (m : ℕ). list_all p (take m xs)) (sym (add-one n)) ∙ list_all_more p xs n 0 h ∙ ap (λ (b : Bool). b && p (get_or xs n 0)) (upto n (omega arith))
+
+pub list_all_below : (p : ℕ → Bool) (n : ℕ) → list_all p (range_with_len 0 n) ≡ all p n
+list_all_below p n =
+    list_all_each p (range_with_len 0 n)
+    ∙ ap (all (λ j. p (get_or (range_with_len 0 n) j 0))) (length-range_with_len 0 n)
+    ∙ all_same _ p n (λ j h. ap p (get_or-range_with_len 0 n j 0 h ∙ zero-add j))
+
 -- ---- `list_of`
 
 from_length : (f : ℕ → ℕ) (i n : ℕ) → length (list_from f i n) ≡ n
@@ -91,7 +109,3 @@ list_at f n k h = from_at f 0 n k h ∙ ap f (zero-add k)
 -- a list is `list_of` where each place is
 pub list_is : (l : List ℕ) (f : ℕ → ℕ) (n : ℕ) → length l ≡ n → ((k : ℕ) → k < n → get_or l k 0 ≡ f k) → l ≡ list_of f n
 list_is l f n e h = ext_get_or 0 l (list_of f n) (e ∙ sym (list_length f n)) (λ k a. let b : k < n = omega arith in h k b ∙ sym (list_at f n k b))
-
--- a list is as f says up to one place more, once that place is written
-pub written_more : (l : List ℕ) (f : ℕ → ℕ) (i : ℕ) → i < length l → ((k : ℕ) → k < i → get_or l k 0 ≡ f k) → (k : ℕ) → k < i + 1 → get_or (set l i (f i)) k 0 ≡ f k
-written_more l f i h p = below_more _ i (λ k a. get_or-set_other l i k (f i) 0 (λ e. omega arith) ∙ p k a) (get_or-set_same l i (f i) 0 h)

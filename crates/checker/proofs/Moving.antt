@@ -11,10 +11,11 @@ use lib.ListN.{length, get_or, set}
 use lib.Seq.{ext_get_or, get_or-set_same, get_or-set_other}
 use borrow.Author.Tests.{eq-eqb, ne_eqb, le-leb, lt-leb, leb-true}
 use Rattle.decoder.proofs.Bools.{by_test}
+use Rattle.std.specs.Prelude.{Result, Ok, Err}
 use Rattle.rules.specs.declared.layout.Layout.{Layout}
 use Rattle.checker.specs.Lists.{sum, all}
 use Rattle.checker.specs.Standing.{landing_at, landings}
-use Rattle.checker.specs.parts.Ledger.{Within, Moves, fits, can_move, one_on, Moved, MovedFirst}
+use Rattle.checker.specs.parts.Ledger.{Within, Moves, fits, can_move, one_on, Moved, StopsAt, MovesUpTo}
 use Rattle.checker.proofs.Lists.{split, sum_more, all_same, all_yes, all_at, all_no}
 
 -- ---- one entry: x before, y after
@@ -175,31 +176,28 @@ module _ (on : Bool) (l : Layout) (bytes : List ℕ) (first : ℕ) (before : Lis
     pub next_moved : r ≡ true → Moved on (land (k + 1)) before after true
     next_moved t = moved_then on (land k) before mid same m after (one_on j) (land (k + 1)) next (subst (λ (b : Bool). Moved on (one_on j) mid after b) t one)
 
-    pub next_refused : r ≡ false → (asked : ℕ) → k < asked → MovedFirst on l bytes first asked before after k
+    pub next_refused : r ≡ false → (asked : ℕ) → k < asked → StopsAt on l bytes first asked before after k
     next_refused f asked h =
         record {
-          most = omega arith;
+          inside = h;
           moved = subst (λ (x : List ℕ). Moved on (land k) before x true) (sym (one.no' f)) m;
-          stop = λ _. sym (can_then on (land k) before mid same m (one_on j) (land (k + 1)) next) ∙ sym one.answer ∙ f;
+          stop = sym (can_then on (land k) before mid same m (one_on j) (land (k + 1)) next) ∙ sym one.answer ∙ f;
         }
 
-  module _ (asked : ℕ) (mid : List ℕ) (r : ℕ) (p : MovedFirst on l bytes first asked before mid r) where
-    -- it stops short only where not all may be moved
-    stops : r < asked → can_move on before (land asked) ≡ false
-    unfolding landings
-    stops h = not_more on before (land (r + 1)) (land asked) (λ i. sum_more _ (r + 1) asked (omega arith)) (p.stop h)
+  -- it stops short only where not all may be moved
+  stops : (asked : ℕ) (mid : List ℕ) (k : ℕ) → StopsAt on l bytes first asked before mid k → can_move on before (land asked) ≡ false
+  unfolding landings
+  stops asked mid k p = not_more on before (land (k + 1)) (land asked) (λ i. sum_more _ (k + 1) asked (omega arith)) p.stop
 
-    pub moved_whole : asked ≤ r → Moved on (land asked) before mid true
-    moved_whole h = let e : r ≡ asked = let m = p.most in omega arith in subst (λ (k : ℕ). Moved on (land k) before mid true) e p.moved
-
-    pub moved_all : can_move on before (land asked) ≡ true → Moved on (land asked) before mid true
-    moved_all e = split asked r moved_whole (λ h. absurd (true≢false (sym e ∙ stops h)))
+  pub moved_all : (asked : ℕ) (mid : List ℕ) (r : Result (Unit {0}) ℕ) → MovesUpTo on l bytes first asked before mid r → can_move on before (land asked) ≡ true → Moved on (land asked) before mid true
+  moved_all asked mid (Ok _) p e = p
+  moved_all asked mid (Err k) p e = absurd (true≢false (sym e ∙ stops asked mid k p))
 
 -- what was moved in part is moved back whole
-pub part_back : (on : Bool) (l : Layout) (bytes : List ℕ) (first : ℕ) (before mid after : List ℕ) (asked r s : ℕ) → length mid ≡ length before → length after ≡ length mid → Within before → r < asked
-    → MovedFirst on l bytes first asked before mid r → MovedFirst (not on) l bytes first r mid after s → Moved on (landings l (length before) bytes first asked) before after false
-part_back on l bytes first before mid after asked r s same a_length w h p q =
-    let part = landings l (length before) bytes first r in
-    let can = subst (λ (n : ℕ). can_move (not on) mid (landings l n bytes first r) ≡ true) (sym same) (can_back on part before mid same p.moved w) in
-    let back = subst (λ (n : ℕ). Moved (not on) (landings l n bytes first r) mid after true) same (moved_all (not on) l bytes first mid r after s q can) in
-    unmoved on _ before after (stops on l bytes first before asked mid r p h) (moved_back on part before mid same p.moved w after true a_length back)
+pub part_back : (on : Bool) (l : Layout) (bytes : List ℕ) (first : ℕ) (before mid after : List ℕ) (asked k : ℕ) (r : Result (Unit {0}) ℕ) → length mid ≡ length before → length after ≡ length mid → Within before
+    → StopsAt on l bytes first asked before mid k → MovesUpTo (not on) l bytes first k mid after r → Moved on (landings l (length before) bytes first asked) before after false
+part_back on l bytes first before mid after asked k r same a_length w p q =
+    let part = landings l (length before) bytes first k in
+    let can = subst (λ (n : ℕ). can_move (not on) mid (landings l n bytes first k) ≡ true) (sym same) (can_back on part before mid same p.moved w) in
+    let back = subst (λ (n : ℕ). Moved (not on) (landings l n bytes first k) mid after true) same (moved_all (not on) l bytes first mid k after r q can) in
+    unmoved on _ before after (stops on l bytes first before asked mid k p) (moved_back on part before mid same p.moved w after true a_length back)

@@ -55,12 +55,11 @@ past_slot_3 bytes k e =
     by_test (eqb (get_or (bundle_words bytes (k / 4)) 0 0) head_word) (λ t. rw e (simp t)) (λ t. rw e (simp t))
 
 -- from a slot to the next
-pub slot_after : (bytes : List ℕ) (b s : ℕ) → s + 1 < 4
-    → (reading_at bytes (4 * b + s) ≡ before_at bytes (4 * b + (s + 1))) × (next_at bytes (4 * b + s) ≡ reading_at bytes (4 * b + (s + 1)))
-slot_after bytes b s h = (
-  ap (reading_at bytes) (omega arith) ∙ before_at_lem bytes (4 * b + (s + 1)) (λ e. omega arith),
-  next_at_lem bytes (4 * b + s) (λ e. omega arith) ∙ ap (reading_at bytes) (omega arith),
-)
+pub slot_after : (bytes : List ℕ) (k : ℕ) → (k % 4 ≡ 3 → ⊥) → (reading_at bytes k ≡ before_at bytes (k + 1)) × (next_at bytes k ≡ reading_at bytes (k + 1))
+slot_after bytes k h = (ap (reading_at bytes) (back k) ∙ before_at_lem bytes (k + 1) (λ e. omega arith), next_at_lem bytes k h)
+  where
+    back : (k : ℕ) → k ≡ k + 1 - 1
+    back k = omega arith
 
 -- a word's role takes its reading and the one before it
 pub role_at_lem : (bytes : List ℕ) (k : ℕ) → role_after (before_at bytes k) (reading_at bytes k) ≡ role_at bytes k

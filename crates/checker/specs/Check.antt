@@ -1,7 +1,7 @@
 -- The check: its verdict on a region, and the ledger that it leaves.
-use Rattle.std.specs.Prelude.{ℕ, ◌+◌, ◌*◌, ◌/◌, ◌≡◌, Bool, not, cond, List, eqb, ltb, length}
+use Rattle.std.specs.Prelude.{ℕ, ◌+◌, ◌*◌, ◌/◌, ◌≡◌, Bool, not, cond, List, eqb, ltb, length, Result}
 use Rattle.rules.specs.declared.layout.Layout.{Layout}
-use Rattle.rules.specs.declared.outcome.Outcome.{Outcome}
+use Rattle.rules.specs.declared.outcome.Reason.{Reason}
 use Rattle.rules.specs.Layout.{layout_holds, length_holds, address_of}
 use Rattle.rules.specs.Outcome.{Verdict, accepted, refused, refused_at, no_class, verdict_of, refusal_of}
 use Rattle.checker.specs.Lists.{first_from, list_of}
@@ -48,6 +48,6 @@ ledger_after (refused_at number at) new old = old
 ledger_after (no_class why at) new old = old
 
 -- what the check promises: the verdict, and every entry of the ledger afterwards
-pub record Checked (l : Layout) (code before after : List ℕ) (r : Outcome) : Type 0 where
+pub record Checked (l : Layout) (code before after : List ℕ) (r : Result (Unit {0}) Reason) : Type 0 where
   pub verdict : verdict_of r ≡ check_verdict l code (length before)
   pub ledger : after ≡ ledger_after (check_verdict l code (length before)) (ledger_of l code) before

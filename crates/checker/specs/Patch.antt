@@ -1,7 +1,7 @@
 -- "Patching": the patch's verdict, and the ledger and the bytes that it leaves. Code length is four times the ledger's length.
-use Rattle.std.specs.Prelude.{ℕ, ◌+◌, ◌-◌, ◌*◌, ◌/◌, ◌%◌, ◌≡◌, Bool, not, ◌&&◌, cond, List, eqb, ltb, leb, length, get_or}
+use Rattle.std.specs.Prelude.{ℕ, ◌+◌, ◌-◌, ◌*◌, ◌/◌, ◌%◌, ◌≡◌, Bool, not, ◌&&◌, cond, List, eqb, ltb, leb, length, get_or, Result}
 use Rattle.rules.specs.declared.layout.Layout.{Layout}
-use Rattle.rules.specs.declared.outcome.Outcome.{Outcome}
+use Rattle.rules.specs.declared.outcome.Reason.{Reason}
 use Rattle.rules.specs.Layout.{layout_holds, length_holds, address_of}
 use Rattle.rules.specs.Rule.{landable}
 use Rattle.rules.specs.Outcome.{Verdict, accepted, refused, refused_at, verdict_of, refusal_of}
@@ -83,7 +83,7 @@ patch_verdict l ledger offset old new =
     (cond (not (shape_holds (length ledger) offset old new)) (refused 12) (bundles_verdict l ledger (offset / 4) old new)))
 
 -- what the patch promises: the verdict, every entry of the ledger and every byte of the old bundles afterwards
-pub record Patched (l : Layout) (ledger : List ℕ) (offset : ℕ) (old new after old_after : List ℕ) (r : Outcome) : Type 0 where
+pub record Patched (l : Layout) (ledger : List ℕ) (offset : ℕ) (old new after old_after : List ℕ) (r : Result (Unit {0}) Reason) : Type 0 where
   pub verdict : verdict_of r ≡ patch_verdict l ledger offset old new
   pub ledger' : after ≡ ledger_after (patch_verdict l ledger offset old new) (moved_ledger l ledger (offset / 4) old new) ledger
   pub bytes : old_after ≡ ledger_after (patch_verdict l ledger offset old new) new old

@@ -1,77 +1,49 @@
 // The check call.
-ghost use Rattle.std.specs.Prelude.{◌≡◌, ◌/◌, ◌≤◌, eqb, length};
-ghost use Rattle.decoder.specs.Question.{in_no_class};
-ghost use Rattle.rules.specs.Outcome.{refused_at, reason_verdict, refusal_of};
-ghost use Rattle.checker.specs.parts.Stands.{Stands};
-ghost use Rattle.checker.specs.Check.{ledger_of, Checked};
+ghost use Rattle.std.specs.Prelude.{◌≡◌, length};
+ghost use Rattle.checker.specs.Check.{words_of, ledger_of, Checked};
 
-use crate::fault::first_fault;
-use crate::ledger::{clear, move_landings, write_roles};
-use crate::region::reading_at;
-use decoder::reading::{Kind, Reading};
+use crate::region::Bundles;
 use rules::layout::{Layout, layout_holds, length_holds};
-use rules::outcome::{Outcome, Reason};
+use rules::outcome::Reason;
+use rules::region::Region;
 
-// The reason of a rule from 5 to 11, of a word in a class, with its address.
-fn class_reason(number: u32, at: u32) -> Reason
-    requires { (5 ≤ number) × (number ≤ 11) }
-    ensures { reason_verdict result ≡ refused_at number at }
-{
-    match number {
-        5 => Reason::Register { at },
-        6 => Reason::StackPointer { at },
-        7 => Reason::Access { at },
-        8 => Reason::RegisterBranch { at },
-        9 => Reason::Call { at },
-        10 => Reason::LiteralLoad { at },
-        _ => Reason::Target { at },
+impl Bundles<'_> {
+    // The ledger of a region that they fill.
+    #[tactic(auto, using(crate::proofs::Checks::within_roles, crate::proofs::Checks::ledger_written))]
+    fn write_ledger(&self, ledger: &mut [u32])
+        requires { (self.now.first ≡ 0) × (length ledger.old ≡ self.now.region.words) × (self.now.region.words ≡ words_of self.now.bytes.now) }
+        ensures { ledger.new ≡ ledger_of self.now.region.layout self.now.bytes.now }
+    {
+        ledger.fill(0);
+        self.write_roles(ledger);
+        // All are put on: no count passes the number of words.
+        let _ = self.move_landings(ledger, self.len(), true);
     }
-}
-
-// The reason of a word's lowest number, with its address; of a word in no class, with why.
-#[tactic(auto, unfolding(decoder::specs::Question::in_no_class))]
-pub(crate) fn reason(word: Reading, number: u32, at: u32) -> Reason
-    requires { (in_no_class word.kind ≡ eqb number 4) × (4 ≤ number) × (number ≤ 11) }
-    ensures { reason_verdict result ≡ refusal_of word.kind number at }
-{
-    let kind = word.kind;
-    match kind {
-        Kind::NoClass(why) => Reason::NoClass { why, at },
-        _ => class_reason(number, at),
-    }
-}
-
-// The ledger of a region in which no word breaks a rule.
-fn write_ledger(layout: Layout, code: &[u8], ledger: &mut [u32])
-    requires { (Stands layout (length ledger.old) code.now 0) × (length ledger.old ≡ length code.now / 4) }
-    ensures { ledger.new ≡ ledger_of layout code.now }
-{
-    clear(ledger);
-    write_roles(layout, ledger, code, 0);
-    move_landings(layout, ledger, code, 0, code.len() / 4, true);
 }
 
 // Accepts the region exactly where every word meets the rules, and then writes its ledger. A refusal
 // changes nothing; the code is never changed.
-pub fn check(layout: Layout, code: &[u8], ledger: &mut [u32]) -> Outcome
+#[tactic(auto, unfolding(crate::specs::Check::check_verdict, crate::specs::Check::ledger_after), using(rules::proofs::Says::layout_says, rules::proofs::Says::length_says, crate::proofs::Checks::words_refused, crate::proofs::Checks::words_passed))]
+pub fn check(layout: Layout, code: &[u8], ledger: &mut [u32]) -> Result<(), Reason>
     ensures { Checked layout code.now ledger.old ledger.new result }
 {
     let length = code.len();
     if !layout_holds(layout, length) {
-        return Outcome::Refused(Reason::Layout);
+        return Err(Reason::Layout);
     }
     if !length_holds(length) {
-        return Outcome::Refused(Reason::CodeLength);
+        return Err(Reason::CodeLength);
     }
-    if ledger.len() != length / 4 {
-        return Outcome::Refused(Reason::LedgerLength);
+    let words = ledger.len();
+    if words != length / 4 {
+        return Err(Reason::LedgerLength);
     }
-    let found = first_fault(layout, ledger, code, 0);
-    let number = found.number;
-    if number != 0 {
-        let at = layout.code_start + (4 * found.at) as u32;
-        return Outcome::Refused(reason(reading_at(code, found.at), number, at));
-    }
-    write_ledger(layout, code, ledger);
-    Outcome::Accepted
+    let bundles = Bundles {
+        region: Region { layout, words },
+        bytes: code,
+        first: 0,
+    };
+    bundles.first_fault(ledger)?;
+    bundles.write_ledger(ledger);
+    Ok(())
 }

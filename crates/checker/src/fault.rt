@@ -1,118 +1,97 @@
 // The first word that breaks a rule, among bundles that stand in a region. Roles come from the bundles
 // inside them and from the ledger outside; the check has the whole region and reads no ledger entry.
-ghost use Rattle.std.specs.Prelude.{◌≡◌, ◌+◌, ◌*◌, ◌/◌, ◌%◌, ◌≤◌, ◌<◌, length};
-ghost use Rattle.checker.specs.parts.First.{First};
+ghost use Rattle.std.specs.Prelude.{◌≡◌, ◌+◌, ◌*◌, ◌/◌, ◌<◌, length};
+ghost use Rattle.checker.specs.Check.{words_of};
 ghost use Rattle.checker.specs.Region.{reading_at, before_at, next_at};
-ghost use Rattle.checker.specs.Standing.{target_role, role_from, standing_fault};
-ghost use Rattle.checker.specs.parts.Stands.{Stands};
+ghost use Rattle.checker.specs.Standing.{target_role, role_from};
+ghost use Rattle.checker.specs.parts.Fault.{Tests};
 
-use crate::region::{before_at, next_at, reading_at, role_at};
+use crate::region::Bundles;
 use decoder::place::{Place, direct_target};
 use decoder::reading::Reading;
-use pairs::role::PLAIN;
-use rules::layout::Layout;
-use rules::rule::{fault, landing};
+use pairs::role::Role;
+use rules::outcome::Reason;
+use rules::rule::Setting;
 
-// number is 0 where no word breaks a rule; at is then the number of words.
-#[derive(Clone, Copy)]
-pub(crate) struct Fault {
-    pub(crate) at: usize,
-    pub(crate) number: u32,
-}
-
-// The role of word j of the region.
-#[tactic(auto, unfolding(crate::specs::Standing::role_from))]
-pub(crate) fn role_from(ledger: &[u32], bytes: &[u8], first: usize, j: usize) -> u32
-    requires { (length bytes.now % 16 ≡ 0) × (j < length ledger.now) }
-    ensures { result ≡ role_from ledger.now bytes.now first j }
-{
-    if j < first {
-        return ledger[j] % 4;
-    }
-    let k = j - first;
-    if k < bytes.len() / 4 {
-        return role_at(bytes, k);
-    }
-    ledger[j] % 4
-}
-
-// The role of the word that a target lands on. Where it lands on none, plain stands for it.
-#[tactic(auto, unfolding(crate::specs::Standing::target_role))]
-fn target_role(layout: Layout, ledger: &[u32], bytes: &[u8], first: usize, target: Place) -> u32
-    requires { length bytes.now % 16 ≡ 0 }
-    ensures { result ≡ target_role layout (length ledger.now) (role_from ledger.now bytes.now first) target }
-{
-    let j = landing(layout, ledger.len(), target);
-    if j < ledger.len() {
-        return role_from(ledger, bytes, first, j);
-    }
-    PLAIN
-}
-
-// The lowest number that word k breaks, or 0, from its reading and those beside it.
-#[tactic(auto, unfolding(crate::specs::Standing::standing_fault, crate::specs::Standing::fault_at, crate::specs::Standing::target_at))]
-fn word_fault(
-    layout: Layout,
-    ledger: &[u32],
-    bytes: &[u8],
-    first: usize,
-    k: usize,
-    before: Reading,
-    word: Reading,
-    next: Reading,
-) -> u32
-    requires { (Stands layout (length ledger.now) bytes.now first) × (k < length bytes.now / 4) × (before ≡ before_at bytes.now k) × (word ≡ reading_at bytes.now k) × (next ≡ next_at bytes.now k) }
-    ensures { result ≡ standing_fault layout ledger.now bytes.now first k }
-{
-    let words = ledger.len();
-    let address = layout.code_start + (4 * (first + k)) as u32;
-    let role = target_role(layout, ledger, bytes, first, direct_target(word, address));
-    let slot = (k % 4) as u32;
-    fault(layout, words, before, word, next, slot, address, role)
-}
-
-// The first of bundle b's words that breaks a rule.
-fn bundle_fault(layout: Layout, ledger: &[u32], bytes: &[u8], first: usize, b: usize) -> Fault
-    requires { (Stands layout (length ledger.now) bytes.now first) × (16 * b + 16 ≤ length bytes.now) }
-    ensures { First (standing_fault layout ledger.now bytes.now first) (4 * b) 4 result.at result.number }
-{
-    let start = 4 * b;
-    let mut before = before_at(bytes, start);
-    let mut word = reading_at(bytes, start);
-    let mut slot = 0;
-    while slot < 4 {
-        let at = start + slot;
-        let next = next_at(bytes, at);
-        let number = word_fault(layout, ledger, bytes, first, at, before, word, next);
-        if number != 0 {
-            return Fault { at, number };
+impl Bundles<'_> {
+    // The role of word j of the region, by its number, as `Setting` takes it.
+    #[tactic(auto, unfolding(crate::specs::Standing::role_from))]
+    fn role_from(&self, ledger: &[u32], j: usize) -> u32
+        requires { j < length ledger.now }
+        ensures { result ≡ role_from ledger.now self.now.bytes.now self.now.first j }
+    {
+        if self.first <= j && j - self.first < self.len() {
+            return self.role_at(j - self.first);
         }
-        before = word;
-        word = next;
-        slot += 1;
+        ledger[j] % 4
     }
-    Fault {
-        at: start + 4,
-        number: 0,
-    }
-}
 
-// The first word that breaks a rule, by rising address.
-pub(crate) fn first_fault(layout: Layout, ledger: &[u32], bytes: &[u8], first: usize) -> Fault
-    requires { Stands layout (length ledger.now) bytes.now first }
-    ensures { First (standing_fault layout ledger.now bytes.now first) 0 (length bytes.now / 4) result.at result.number }
-{
-    let bundles = bytes.len() / 16;
-    let mut b: usize = 0;
-    while b < bundles {
-        let found = bundle_fault(layout, ledger, bytes, first, b);
-        if found.number != 0 {
-            return found;
+    // The role of the word that a target lands on. Where it lands on none, plain stands for it.
+    #[tactic(auto, unfolding(crate::specs::Standing::target_role))]
+    fn target_role(&self, ledger: &[u32], target: Place) -> u32
+        requires { length ledger.now ≡ self.now.region.words }
+        ensures { result ≡ target_role self.now.region.layout self.now.region.words (role_from ledger.now self.now.bytes.now self.now.first) target }
+    {
+        match self.region.landing(target) {
+            Some(j) => self.role_from(ledger, j),
+            None => u32::from(Role::Plain),
         }
-        b += 1;
     }
-    Fault {
-        at: 4 * b,
-        number: 0,
+
+    // Whether word k breaks a rule, and for what reason, by its reading and those beside it.
+    #[tactic(auto, using(crate::proofs::Faults::setting_is, crate::proofs::Faults::one_word))]
+    fn word_fault(
+        &self,
+        ledger: &[u32],
+        k: usize,
+        before: Reading,
+        word: Reading,
+        next: Reading,
+    ) -> Result<(), Reason>
+        requires region { (length ledger.now ≡ self.now.region.words) × (k < words_of self.now.bytes.now) }
+        requires readings { (before ≡ before_at self.now.bytes.now k) × (word ≡ reading_at self.now.bytes.now k) × (next ≡ next_at self.now.bytes.now k) }
+        ensures { Tests self.now.region.layout ledger.now self.now.bytes.now self.now.first k (k + 1) result }
+    {
+        let address = self.address(k);
+        let role = self.target_role(ledger, direct_target(word, address));
+        let setting = Setting {
+            region: self.region,
+            before,
+            word,
+            next,
+            slot: (k % 4) as u32,
+            address,
+            role,
+        };
+        setting.fault()
+    }
+
+    // Whether one of bundle b's words does, and the reason of the first.
+    #[tactic(auto, using(crate::proofs::Words::slot_after))]
+    fn bundle_fault(&self, ledger: &[u32], b: usize) -> Result<(), Reason>
+        requires { (length ledger.now ≡ self.now.region.words) × (b < length self.now.bytes.now / 16) }
+        ensures { Tests self.now.region.layout ledger.now self.now.bytes.now self.now.first (4 * b) (4 * b + 4) result }
+    {
+        let start = 4 * b;
+        let mut before = self.before_at(start);
+        let mut word = self.reading_at(start);
+        for k in start..start + 4 {
+            let next = self.next_at(k);
+            self.word_fault(ledger, k, before, word, next)?;
+            before = word;
+            word = next;
+        }
+        Ok(())
+    }
+
+    // Whether any word does, and the reason of the first by rising address.
+    pub(crate) fn first_fault(&self, ledger: &[u32]) -> Result<(), Reason>
+        requires { length ledger.now ≡ self.now.region.words }
+        ensures { Tests self.now.region.layout ledger.now self.now.bytes.now self.now.first 0 (words_of self.now.bytes.now) result }
+    {
+        for b in 0..self.bytes.len() / 16 {
+            self.bundle_fault(ledger, b)?;
+        }
+        Ok(())
     }
 }

@@ -1,89 +1,23 @@
 // Writing the ledger: an entry is 4 x count + role.
-ghost use Rattle.std.specs.Prelude.{◌≡◌, ◌+◌, ◌*◌, ◌/◌, ◌^◌, ◌≤◌, ◌<◌, length, get_or, set};
+ghost use Rattle.std.specs.Prelude.{◌≡◌, ◌+◌, ◌*◌, ◌/◌, ◌^◌, ◌≤◌, ◌<◌, length, IfSome, unwrap_or};
+ghost use Rattle.checker.specs.Check.{words_of};
 ghost use Rattle.checker.specs.Standing.{landing_at};
-ghost use Rattle.checker.specs.parts.Stands.{Stands};
-ghost use Rattle.checker.specs.parts.Ledger.{Cleared, RolesWritten, Within, one_on, Moved, MovedFirst};
+ghost use Rattle.checker.specs.parts.Ledger.{RolesWritten, Within, one_on, Moved, MovesUpTo};
 
-use crate::region::{bundle, reading_at};
+use crate::region::Bundles;
 use decoder::place::direct_target;
 use pairs::role::roles;
-use rules::layout::Layout;
-use rules::rule::landing;
 
-pub(crate) fn clear(ledger: &mut [u32])
-    ensures { Cleared ledger.old ledger.new }
-{
-    let mut i: usize = 0;
-    while i < ledger.len() {
-        ledger[i] = 0;
-        i += 1;
-    }
-}
-
-// The role of word j, with its count kept.
-fn write_role(ledger: &mut [u32], j: usize, role: u32)
-    requires { (j < length ledger.old) × (role < 4) }
-    ensures { ledger.new ≡ set ledger.old j (get_or ledger.old j 0 / 4 * 4 + role) }
-{
-    ledger[j] = ledger[j] / 4 * 4 + role;
-}
-
-// The roles of bundle b, with the counts kept.
-fn write_bundle(ledger: &mut [u32], bytes: &[u8], first: usize, b: usize)
-    requires { (16 * b + 16 ≤ length bytes.now) × (first + 4 * b + 4 ≤ length ledger.old) }
-    ensures { RolesWritten bytes.now first (4 * b) (4 * b + 4) ledger.old ledger.new }
-{
-    let roles = roles(bundle(bytes, b));
-    let mut slot: usize = 0;
-    while slot < 4 {
-        let role = roles[slot];
-        write_role(ledger, first + (4 * b + slot), role);
-        slot += 1;
-    }
-}
-
-// The roles of all the bundles, with the counts kept.
-pub(crate) fn write_roles(layout: Layout, ledger: &mut [u32], bytes: &[u8], first: usize)
-    requires { Stands layout (length ledger.old) bytes.now first }
-    ensures { RolesWritten bytes.now first 0 (length bytes.now / 4) ledger.old ledger.new }
-{
-    let bundles = bytes.len() / 16;
-    let mut b: usize = 0;
-    while b < bundles {
-        write_bundle(ledger, bytes, first, b);
-        b += 1;
-    }
-}
-
-// The number of the word that word k lands on, or the number of words.
-#[tactic(auto, unfolding(crate::specs::Standing::landing_at, crate::specs::Standing::target_at))]
-pub(crate) fn landing_at(
-    layout: Layout,
-    words: usize,
-    bytes: &[u8],
-    first: usize,
-    k: usize,
-) -> usize
-    requires { (Stands layout words bytes.now first) × (k < length bytes.now / 4) }
-    ensures { result ≡ landing_at layout words bytes.now first k }
-{
-    let address = layout.code_start + (4 * (first + k)) as u32;
-    landing(layout, words, direct_target(reading_at(bytes, k), address))
-}
-
-// One landing put on word j, or taken off it, if there is such a word. False where its count is at its
-// bound: the number of words, or 0.
-#[tactic(auto, using(crate::proofs::Moving::one_nowhere, crate::proofs::Moving::one_refused))]
+// One landing put on word j, or taken off it. False where its count is at its bound: the number of
+// words, or 0. `on` is a flag and no closure: to go back is to take the other step, and the promise speaks of
+// both.
+#[tactic(auto, using(crate::proofs::Moving::one_refused))]
 fn move_landing(ledger: &mut [u32], j: usize, on: bool) -> bool
-    requires { (length ledger.old ≤ 2 ^ 29) × (Within ledger.old) }
+    requires { (j < length ledger.old) × (length ledger.old ≤ 2 ^ 29) × (Within ledger.old) }
     ensures { Moved on (one_on j) ledger.old ledger.new result }
 {
-    let words = ledger.len();
-    if words <= j {
-        return true;
-    }
     let entry = ledger[j];
-    let bound = if on { words } else { 0 };
+    let bound = if on { ledger.len() } else { 0 };
     if (entry / 4) as usize == bound {
         return false;
     }
@@ -91,27 +25,60 @@ fn move_landing(ledger: &mut [u32], j: usize, on: bool) -> bool
     true
 }
 
-// The landings of the first words of the bytes are put on, or taken off, up to one that finds a count at
-// its bound.
-pub(crate) fn move_landings(
-    layout: Layout,
-    ledger: &mut [u32],
-    bytes: &[u8],
-    first: usize,
-    asked: usize,
-    on: bool,
-) -> usize
-    requires { (Stands layout (length ledger.old) bytes.now first) × (Within ledger.old) × (asked ≤ length bytes.now / 4) }
-    ensures { MovedFirst on layout bytes.now first asked ledger.old ledger.new result }
-{
-    let words = ledger.len();
-    let mut k: usize = 0;
-    while k < asked {
-        let j = landing_at(layout, words, bytes, first, k);
-        if !move_landing(ledger, j, on) {
-            return k;
+impl Bundles<'_> {
+    // The roles of bundle b, with the counts kept.
+    #[tactic(auto, using(crate::proofs::Ledgers::slot_role))]
+    fn write_bundle(&self, ledger: &mut [u32], b: usize)
+        requires { (length ledger.old ≡ self.now.region.words) × (b < length self.now.bytes.now / 16) }
+        ensures { RolesWritten self.now.bytes.now self.now.first (4 * b) (4 * b + 4) ledger.old ledger.new }
+    {
+        let roles = roles(self.bundle(b));
+        for slot in 0..4 {
+            let j = self.first + (4 * b + slot);
+            ledger[j] = ledger[j] / 4 * 4 + u32::from(roles[slot]);
         }
-        k += 1;
     }
-    k
+
+    // The roles of all the bundles, with the counts kept.
+    pub(crate) fn write_roles(&self, ledger: &mut [u32])
+        requires { length ledger.old ≡ self.now.region.words }
+        ensures { RolesWritten self.now.bytes.now self.now.first 0 (words_of self.now.bytes.now) ledger.old ledger.new }
+    {
+        for b in 0..self.bytes.len() / 16 {
+            self.write_bundle(ledger, b);
+        }
+    }
+
+    // The number of the word that word k lands on, if it lands on one.
+    #[tactic(auto, unfolding(crate::specs::Standing::landing_at, crate::specs::Standing::target_at))]
+    fn landing_at(&self, k: usize) -> Option<usize>
+        requires { k < words_of self.now.bytes.now }
+        ensures inside { IfSome result (λ j. j < self.now.region.words) }
+        ensures landing { unwrap_or result self.now.region.words ≡ landing_at self.now.region.layout self.now.region.words self.now.bytes.now self.now.first k }
+    {
+        let target = direct_target(self.reading_at(k), self.address(k));
+        self.region.landing(target)
+    }
+
+    // The landings of the first words are put on, or taken off, up to one that finds a count at its bound.
+    #[tactic(auto, using(crate::proofs::Moving::moved_none, crate::proofs::Moving::landings_none, crate::proofs::Moving::within_then))]
+    pub(crate) fn move_landings(
+        &self,
+        ledger: &mut [u32],
+        asked: usize,
+        on: bool,
+    ) -> Result<(), usize>
+        requires { (length ledger.old ≡ self.now.region.words) × (Within ledger.old) × (asked ≤ words_of self.now.bytes.now) }
+        ensures { MovesUpTo on self.now.region.layout self.now.bytes.now self.now.first asked ledger.old ledger.new result }
+    {
+        for k in 0..asked {
+            let Some(j) = self.landing_at(k) else {
+                continue;
+            };
+            if !move_landing(ledger, j, on) {
+                return Err(k);
+            }
+        }
+        Ok(())
+    }
 }

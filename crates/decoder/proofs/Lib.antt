@@ -8,4 +8,5 @@ pub mod Taken
 pub mod Counted
 pub mod Bundles
 pub mod Unique
+pub mod Registers
 pub mod Points

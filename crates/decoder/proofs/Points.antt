@@ -4,6 +4,7 @@ use mathlib.Core.Path.{◌≡◌}
 use mathlib.Core.Bool.{true, false}
 use mathlib.Core.List.{List, [], ◌∷◌}
 use lib.ListN.{get_or}
+use Rattle.std.specs.Prelude.{Some}
 use Rattle.decoder.specs.Word.{is_compare, is_move, is_data, operand_of, data_fields, is_half_move, is_nop, is_multiply, multiply_fields, is_any_access, is_literal_load, is_access, access_fields, is_branch, is_register_branch, why_of, kind_of, reading_of}
 use Rattle.decoder.specs.Bundle.{head_word, head_reading, literal_reading, readings_of, slot_reading, blank}
 use Rattle.decoder.specs.Place.{behind, signed_step, target_of, literal_of}
@@ -61,11 +62,11 @@ pub record Points : Type 0 where
   pub names_rt : names 9 (kind_of 0xE580_9000) ≡ true
   pub list_names_its_registers : (names 9 (kind_of 0xE890_0206) ≡ true) × (names 3 (kind_of 0xE890_0206) ≡ false)
   -- question::base
-  pub base_of_store : base_of (kind_of 0xE580_1000) ≡ 0
-  pub base_of_load : base_of (kind_of 0xE591_0000) ≡ 1
+  pub base_of_store : base_of (kind_of 0xE580_1000) ≡ Some 0
+  pub base_of_load : base_of (kind_of 0xE591_0000) ≡ Some 1
   -- question::branch_register
-  pub register_of_bx : branch_register (kind_of 0xE12F_FF13) ≡ 3
-  pub register_of_blx : branch_register (kind_of 0xE12F_FF33) ≡ 3
+  pub register_of_bx : branch_register (kind_of 0xE12F_FF13) ≡ Some 3
+  pub register_of_blx : branch_register (kind_of 0xE12F_FF33) ≡ Some 3
   -- question::writes_sp
   pub sp_as_rd : writes_sp (kind_of 0xE1A0_D000) ≡ true
   pub sp_as_rn : writes_sp (kind_of 0xE28D_0004) ≡ false
@@ -83,7 +84,7 @@ pub record Points : Type 0 where
   -- question::in_no_class
   pub nop_in_a_class : in_no_class (kind_of N) ≡ false
   pub svc_in_no_class : in_no_class (kind_of 0xEF00_0000) ≡ true
-  -- question::why_number
+  -- u32::from(Why)
   pub condition_15_is_1 : why_number Condition15 ≡ 1
   pub unlisted_is_4 : why_number Unlisted ≡ 4
   -- question::transfer_bytes

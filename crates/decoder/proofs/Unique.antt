@@ -32,8 +32,8 @@ use Rattle.decoder.proofs.question.is_call.Kinds as is_call_kinds
 use Rattle.decoder.proofs.question.is_call.Reads as is_call
 use Rattle.decoder.proofs.question.in_no_class.Kinds as in_no_class_kinds
 use Rattle.decoder.proofs.question.in_no_class.Reads as in_no_class
-use Rattle.decoder.proofs.question.why_number.Kinds as why_number_kinds
-use Rattle.decoder.proofs.question.why_number.Reads as why_number
+use Rattle.decoder.proofs.question.U32FromWhy.from.Kinds as why_number_kinds
+use Rattle.decoder.proofs.question.U32FromWhy.from.Reads as why_number
 use Rattle.decoder.proofs.question.transfer_bytes.Kinds as transfer_bytes_kinds
 use Rattle.decoder.proofs.question.transfer_bytes.Reads as transfer_bytes
 

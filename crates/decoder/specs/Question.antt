@@ -1,6 +1,6 @@
 -- What is asked of a reading. The rules look at the answers and never at the kind, so a new class answers here and leaves the
--- rules alone. 16 stands for no register.
-use Rattle.std.specs.Prelude.{ℕ, zero, suc, ◌+◌, ◌*◌, Bool, true, false, not, ◌&&◌, ◌||◌, cond, eqb}
+-- rules alone.
+use Rattle.std.specs.Prelude.{Option, Some, None, ℕ, zero, suc, ◌+◌, ◌*◌, Bool, true, false, not, ◌&&◌, ◌||◌, cond, eqb}
 use Rattle.decoder.specs.Word.{is_compare, is_move, list_names}
 use Rattle.decoder.specs.Kinds.{of_no_class, of_data, of_access, of_register_branch}
 use Rattle.decoder.specs.declared.reading.Operand.{Operand}
@@ -50,12 +50,12 @@ names r Head = false
 names r (Literal low) = false
 
 -- the register that an access goes through. A literal load, always on r15, asks for no guard and has none here
-unfoldable pub base_of : Kind → ℕ
-base_of k = of_access (λ f. f.rn) 16 k
+unfoldable pub base_of : Kind → Option ℕ
+base_of k = of_access (λ f. Some f.rn) None k
 
 -- the register that a register branch goes to
-unfoldable pub branch_register : Kind → ℕ
-branch_register k = of_register_branch (λ call rm. rm) 16 k
+unfoldable pub branch_register : Kind → Option ℕ
+branch_register k = of_register_branch (λ call rm. Some rm) None k
 
 -- a data word writing r13
 abbrev pub sp_written : DataFields → Bool

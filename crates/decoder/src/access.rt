@@ -3,6 +3,7 @@
 ghost use Rattle.std.specs.Prelude.{◌≡◌, true, false, eqb};
 ghost use Rattle.decoder.specs.Word.{condition_of, write_back_holds, is_word_or_byte, is_halfword, list_names, is_multiple_transfer, is_any_access, is_literal_load, moved_of, kind_of};
 
+use crate::question::REGISTERS;
 use crate::reading::{AccessFields, Kind, Moved};
 
 // P, W, Rn and Rt are as an access of one register may have them.
@@ -29,21 +30,15 @@ fn is_halfword(word: u32) -> bool
         & (word / 0x40_0000 % 2 == 1)
         & (word / 128 % 2 == 1)
         & (word / 16 % 2 == 1);
-    if shape {
-        let part = word / 32 % 4;
-        return !(part == 0) & !((word / 0x10_0000 % 2 == 0) & (2 <= part)) & write_back_holds(word);
-    }
-    false
+    let part = word / 32 % 4;
+    shape && !(part == 0) & !((word / 0x10_0000 % 2 == 0) & (2 <= part)) & write_back_holds(word)
 }
 
 // Register r is one of the sixteen-bit list.
 pub(crate) fn list_names(r: u32, list: u32) -> bool
     ensures { result ≡ list_names r list }
 {
-    if r < 16 {
-        return (list >> r) % 2 == 1;
-    }
-    false
+    r < REGISTERS && (list >> r) % 2 == 1
 }
 
 fn is_multiple_transfer(word: u32) -> bool
@@ -60,14 +55,11 @@ fn is_multiple_transfer(word: u32) -> bool
 pub(crate) fn is_any_access(word: u32) -> bool
     ensures { result ≡ is_any_access word }
 {
-    let group = word / 0x200_0000 % 8;
-    if group == 2 {
-        return is_word_or_byte(word);
+    match word / 0x200_0000 % 8 {
+        2 => is_word_or_byte(word),
+        4 => is_multiple_transfer(word),
+        _ => is_halfword(word),
     }
-    if group == 4 {
-        return is_multiple_transfer(word);
-    }
-    is_halfword(word)
 }
 
 #[tactic(auto, unfolding(crate::specs::Word::is_literal_load))]
@@ -84,24 +76,21 @@ fn is_literal_load(word: u32) -> bool
 fn moved(word: u32) -> Moved
     ensures { result ≡ moved_of word }
 {
-    let group = word / 0x200_0000 % 8;
     let rt = word / 0x1000 % 16;
-    if group == 2 {
-        return Moved::Word {
+    match word / 0x200_0000 % 8 {
+        2 => Moved::Word {
             b: word / 0x40_0000 % 2,
             rt,
             distance: word / 1 % 4096,
-        };
-    }
-    if group == 0 {
-        return Moved::Halfword {
+        },
+        0 => Moved::Halfword {
             part: word / 32 % 4,
             rt,
             distance: word / 256 % 16 * 16 + word / 1 % 16,
-        };
-    }
-    Moved::Registers {
-        list: word / 1 % 0x1_0000,
+        },
+        _ => Moved::Registers {
+            list: word / 1 % 0x1_0000,
+        },
     }
 }
 

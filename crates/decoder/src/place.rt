@@ -4,7 +4,9 @@ ghost use Rattle.decoder.specs.Place.{behind, signed_step, target_of, literal_of
 
 use crate::reading::{Kind, Reading};
 
-#[derive(Clone, Copy)]
+// Three cases of one answer, which `rule10`, `rule11` and `landing` each take in one match. In an `Option`
+// round two of them, each match would have the same three arms.
+#[derive(Clone, Copy, Debug, PartialEq, Eq)]
 pub enum Place {
     // The word has none.
     Absent,
@@ -17,10 +19,10 @@ pub enum Place {
 fn back_from(from: u64, back: u64) -> Place
     ensures { result ≡ behind from back }
 {
-    if back <= from {
-        return Place::At(from - back);
+    match from.checked_sub(back) {
+        Some(at) => Place::At(at),
+        None => Place::Below,
     }
-    Place::Below
 }
 
 // offset is twenty-four bits, read as a signed number of words.
@@ -40,8 +42,7 @@ fn signed_step(from: u64, offset: u64) -> Place
 pub fn direct_target(reading: Reading, address: u32) -> Place
     ensures { result ≡ target_of reading.kind address }
 {
-    let kind = reading.kind;
-    let Kind::Branch { call: _, offset } = kind else {
+    let Kind::Branch { offset, .. } = reading.kind else {
         return Place::Absent;
     };
     let steps = offset / 1 % 0x100_0000;
@@ -53,8 +54,7 @@ pub fn direct_target(reading: Reading, address: u32) -> Place
 pub fn literal(reading: Reading, address: u32) -> Place
     ensures { result ≡ literal_of reading.kind address }
 {
-    let kind = reading.kind;
-    let Kind::LiteralLoad { u, rt: _, distance } = kind else {
+    let Kind::LiteralLoad { u, distance, .. } = reading.kind else {
         return Place::Absent;
     };
     let from = address as u64 + 8;

@@ -6,10 +6,10 @@ use crate::access::list_names;
 use crate::reading::{Kind, Moved, MultiplyFields, Operand, Why};
 use crate::word::{is_compare, is_move};
 
-// Stands for no register.
-pub const NO_REGISTER: u32 = 16;
+// How many there are.
+pub const REGISTERS: u32 = 16;
 
-// The registers that the rules speak of.
+// Those that the rules speak of.
 pub const THREAD: u32 = 9;
 
 pub const SP: u32 = 13;
@@ -21,16 +21,9 @@ fn operand_names(r: u32, operand: Operand) -> bool
     ensures { result ≡ operand_names r operand }
 {
     match operand {
-        Operand::Immediate {
-            rotation: _,
-            byte: _,
-        } => false,
-        Operand::Shifted {
-            shift: _,
-            amount: _,
-            rm,
-        } => rm == r,
-        Operand::ShiftedByRs { shift: _, rs, rm } => (rm == r) | (rs == r),
+        Operand::Immediate { .. } => false,
+        Operand::Shifted { rm, .. } => rm == r,
+        Operand::ShiftedByRs { rs, rm, .. } => (rm == r) | (rs == r),
     }
 }
 
@@ -47,16 +40,7 @@ fn moved_names(r: u32, moved: Moved) -> bool
     ensures { result ≡ moved_names r moved }
 {
     match moved {
-        Moved::Word {
-            b: _,
-            rt,
-            distance: _,
-        } => rt == r,
-        Moved::Halfword {
-            part: _,
-            rt,
-            distance: _,
-        } => rt == r,
+        Moved::Word { rt, .. } | Moved::Halfword { rt, .. } => rt == r,
         Moved::Registers { list } => list_names(r, list),
     }
 }
@@ -66,16 +50,7 @@ fn register_list(moved: Moved) -> u32
     ensures { result ≡ register_list moved }
 {
     match moved {
-        Moved::Word {
-            b: _,
-            rt: _,
-            distance: _,
-        } => 0,
-        Moved::Halfword {
-            part: _,
-            rt: _,
-            distance: _,
-        } => 0,
+        Moved::Word { .. } | Moved::Halfword { .. } => 0,
         Moved::Registers { list } => list,
     }
 }
@@ -87,51 +62,39 @@ pub fn names(r: u32, kind: Kind) -> bool
 {
     match kind {
         Kind::Data(fields) => {
-            let operand = fields.operand;
             (!is_compare(fields.operation) & (fields.rd == r))
                 | (!is_move(fields.operation) & (fields.rn == r))
-                | operand_names(r, operand)
+                | operand_names(r, fields.operand)
         }
-        Kind::HalfMove {
-            top: _,
-            rd,
-            number: _,
-        } => rd == r,
+        Kind::HalfMove { rd, .. } => rd == r,
         Kind::Multiply(fields) => multiply_names(r, fields),
-        Kind::Access(fields) => {
-            let moved = fields.moved;
-            (fields.rn == r) | moved_names(r, moved)
-        }
-        Kind::LiteralLoad {
-            u: _,
-            rt,
-            distance: _,
-        } => rt == r,
-        Kind::RegisterBranch { call: _, rm } => rm == r,
+        Kind::Access(fields) => (fields.rn == r) | moved_names(r, fields.moved),
+        Kind::LiteralLoad { rt, .. } => rt == r,
+        Kind::RegisterBranch { rm, .. } => rm == r,
         _ => false,
     }
 }
 
-// The register that an access goes through, or NO_REGISTER.
+// The register that an access goes through.
 #[tactic(auto, unfolding(crate::specs::Question::base_of))]
-pub fn base(kind: Kind) -> u32
+pub fn base(kind: Kind) -> Option<u32>
     ensures { result ≡ base_of kind }
 {
-    let Kind::Access(fields) = kind else {
-        return NO_REGISTER;
-    };
-    fields.rn
+    match kind {
+        Kind::Access(fields) => Some(fields.rn),
+        _ => None,
+    }
 }
 
-// The register that a register branch goes to, or NO_REGISTER.
+// The register that a register branch goes to.
 #[tactic(auto, unfolding(crate::specs::Question::branch_register))]
-pub fn branch_register(kind: Kind) -> u32
+pub fn branch_register(kind: Kind) -> Option<u32>
     ensures { result ≡ branch_register kind }
 {
-    let Kind::RegisterBranch { call: _, rm } = kind else {
-        return NO_REGISTER;
-    };
-    rm
+    match kind {
+        Kind::RegisterBranch { rm, .. } => Some(rm),
+        _ => None,
+    }
 }
 
 // A data word that writes r13.
@@ -139,10 +102,7 @@ pub fn branch_register(kind: Kind) -> u32
 pub fn writes_sp(kind: Kind) -> bool
     ensures { result ≡ writes_sp kind }
 {
-    let Kind::Data(fields) = kind else {
-        return false;
-    };
-    !is_compare(fields.operation) & (fields.rd == SP)
+    matches!(kind, Kind::Data(fields) if !is_compare(fields.operation) & (fields.rd == SP))
 }
 
 // A data word with S = 0.
@@ -150,10 +110,7 @@ pub fn writes_sp(kind: Kind) -> bool
 pub fn keeps_flags(kind: Kind) -> bool
     ensures { result ≡ keeps_flags kind }
 {
-    let Kind::Data(fields) = kind else {
-        return false;
-    };
-    fields.s == 0
+    matches!(kind, Kind::Data(fields) if fields.s == 0)
 }
 
 // r13 is written by a load or a half move, or named by a list, also to store, a multiply or a
@@ -163,22 +120,14 @@ pub fn takes_sp(kind: Kind) -> bool
     ensures { result ≡ takes_sp kind }
 {
     match kind {
-        Kind::HalfMove {
-            top: _,
-            rd,
-            number: _,
-        } => rd == SP,
+        Kind::HalfMove { rd, .. } => rd == SP,
         Kind::Multiply(fields) => multiply_names(SP, fields),
         Kind::Access(fields) => {
-            let moved = fields.moved;
-            ((fields.l == 1) & moved_names(SP, moved)) | list_names(SP, register_list(moved))
+            ((fields.l == 1) & moved_names(SP, fields.moved))
+                | list_names(SP, register_list(fields.moved))
         }
-        Kind::LiteralLoad {
-            u: _,
-            rt,
-            distance: _,
-        } => rt == SP,
-        Kind::RegisterBranch { call: _, rm } => rm == SP,
+        Kind::LiteralLoad { rt, .. } => rt == SP,
+        Kind::RegisterBranch { rm, .. } => rm == SP,
         _ => false,
     }
 }
@@ -189,8 +138,7 @@ pub fn is_call(kind: Kind) -> bool
     ensures { result ≡ is_call kind }
 {
     match kind {
-        Kind::Branch { call, offset: _ } => call == 1,
-        Kind::RegisterBranch { call, rm: _ } => call == 1,
+        Kind::Branch { call, .. } | Kind::RegisterBranch { call, .. } => call == 1,
         _ => false,
     }
 }
@@ -200,21 +148,15 @@ pub fn is_call(kind: Kind) -> bool
 pub fn in_no_class(kind: Kind) -> bool
     ensures { result ≡ in_no_class kind }
 {
-    match kind {
-        Kind::NoClass(_) => true,
-        _ => false,
-    }
+    matches!(kind, Kind::NoClass(_))
 }
 
 // The number of a why, 1 to 4.
-pub fn why_number(why: Why) -> u32
-    ensures { result ≡ why_number why }
-{
-    match why {
-        Why::Condition15 => 1,
-        Why::SystemCall => 2,
-        Why::RegisterIndexed => 3,
-        Why::Unlisted => 4,
+impl From<Why> for u32 {
+    ghost from_gives = { λ why number. number ≡ why_number why };
+
+    fn from(why: Why) -> u32 {
+        why as u32
     }
 }
 
@@ -226,6 +168,5 @@ pub fn transfer_bytes(kind: Kind) -> u32
     let Kind::Access(fields) = kind else {
         return 0;
     };
-    let moved = fields.moved;
-    4 * u32::count_ones(register_list(moved) % 0x1_0000)
+    4 * (register_list(fields.moved) % 0x1_0000).count_ones()
 }

@@ -1,8 +1,10 @@
 // A reading: a condition and one kind with its own fields. It keeps every field that decides what the
-// word does when it runs, each as the number that stands in the word.
+// word does when it runs, each as the number that stands in the word. The questions (`question::names` and
+// the others) answer for every number there, so a bit or an operation is no bool and no enum: either would
+// ask more of their callers.
 
 // What a data word works on beside Rn.
-#[derive(Clone, Copy)]
+#[derive(Clone, Copy, Debug, PartialEq, Eq)]
 pub enum Operand {
     // Bits 7..0, rotated right by twice bits 11..8.
     Immediate { rotation: u32, byte: u32 },
@@ -12,7 +14,7 @@ pub enum Operand {
     ShiftedByRs { shift: u32, rs: u32, rm: u32 },
 }
 
-#[derive(Clone, Copy)]
+#[derive(Clone, Copy, Debug, PartialEq, Eq)]
 pub struct DataFields {
     pub operation: u32,
     pub s: u32,
@@ -21,7 +23,7 @@ pub struct DataFields {
     pub operand: Operand,
 }
 
-#[derive(Clone, Copy)]
+#[derive(Clone, Copy, Debug, PartialEq, Eq)]
 pub struct MultiplyFields {
     pub accumulate: u32,
     pub s: u32,
@@ -34,7 +36,7 @@ pub struct MultiplyFields {
 }
 
 // What an access moves.
-#[derive(Clone, Copy)]
+#[derive(Clone, Copy, Debug, PartialEq, Eq)]
 pub enum Moved {
     // A word, or a byte where b is 1.
     Word { b: u32, rt: u32, distance: u32 },
@@ -46,7 +48,7 @@ pub enum Moved {
 
 // What all accesses have, and what is moved. W writes the base back; so does P = 0, but of a list, where
 // P only says whether a step comes before each word or after it.
-#[derive(Clone, Copy)]
+#[derive(Clone, Copy, Debug, PartialEq, Eq)]
 pub struct AccessFields {
     pub p: u32,
     pub u: u32,
@@ -57,19 +59,19 @@ pub struct AccessFields {
 }
 
 // Why a word is in no class: the first of these that holds.
-#[derive(Clone, Copy)]
+#[derive(Clone, Copy, Debug, PartialEq, Eq)]
 pub enum Why {
     // The condition is 15.
-    Condition15,
+    Condition15 = 1,
     // Bits 27..24 are 15.
-    SystemCall,
+    SystemCall = 2,
     // Bits 27..25 are 011, and bit 4 is 0.
-    RegisterIndexed,
+    RegisterIndexed = 3,
     // None of the above.
-    Unlisted,
+    Unlisted = 4,
 }
 
-#[derive(Clone, Copy)]
+#[derive(Clone, Copy, Debug, PartialEq, Eq)]
 pub enum Kind {
     // The word is in no class.
     NoClass(Why),
@@ -90,7 +92,7 @@ pub enum Kind {
     Literal { low: u32 },
 }
 
-#[derive(Clone, Copy)]
+#[derive(Clone, Copy, Debug, PartialEq, Eq)]
 pub struct Reading {
     pub condition: u32,
     pub kind: Kind,

@@ -1,4 +1,5 @@
-// The classes of a word, and its reading. A word's bits high..low are word / 2^low % 2^(high - low + 1).
+// The classes of a word, and its reading. A word's bits high..low are word / 2^low % 2^(high - low + 1), as
+// the definitions have them, also where low is 0: the proofs of `kind` and `low_kind` need the same term.
 ghost use Rattle.std.specs.Prelude.{◌≡◌, false, ◌≤◌, eqb};
 ghost use Rattle.decoder.specs.Bits.{bits};
 ghost use Rattle.decoder.specs.Word.{condition_of, is_compare, is_move, is_data, operand_of, is_multiply, is_any_access, why_of, kind_of, reading_of};
@@ -14,7 +15,7 @@ const NOP: u32 = 0xE320_F000;
 pub(crate) fn is_compare(operation: u32) -> bool
     ensures { result ≡ is_compare operation }
 {
-    (8 <= operation) & (operation <= 11)
+    matches!(operation, 8..=11)
 }
 
 // Operations 13 and 15 (mov, mvn) have no Rn.
@@ -22,7 +23,7 @@ pub(crate) fn is_compare(operation: u32) -> bool
 pub(crate) fn is_move(operation: u32) -> bool
     ensures { result ≡ is_move operation }
 {
-    (operation == 13) | (operation == 15)
+    matches!(operation, 13 | 15)
 }
 
 #[tactic(auto, unfolding(crate::specs::Word::is_data))]

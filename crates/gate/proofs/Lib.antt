@@ -1,4 +1,5 @@
--- Laws of text and of the line, and that the line is determined.
+-- Laws of text, and that the line is determined.
 pub mod Texts
 pub mod Lines
+pub mod Reading
 pub mod Unique

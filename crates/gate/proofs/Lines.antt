@@ -1,4 +1,4 @@
--- The line of a refusal, with an address and without.
+-- The line of a refusal, with an address and without: laws of the definition, which the proof of `line_for` finds by itself.
 use Prim.Native.Nat.{ℕ, ◌≤◌}
 use native.Mathlib.Omega.{arith}
 use mathlib.Core.Path.{◌≡◌, refl, sym}

@@ -1,56 +1,48 @@
 // The line for a region.
-ghost use Rattle.std.specs.Prelude.{ℕ, ◌≤◌, ◌≡◌, length};
+ghost use Rattle.std.specs.Prelude.{◌≡◌};
 ghost use Rattle.io.specs.Counts.{IsPrefixLen};
-ghost use Rattle.rules.specs.Outcome.{accepted, reason_verdict};
-ghost use Rattle.gate.specs.Text.{Puts};
+ghost use Rattle.rules.specs.Outcome.{verdict_of};
 ghost use Rattle.gate.specs.Line.{paper_layout, line_of, Lined};
 
-use crate::text::{put, put_number};
+use arrayvec::ArrayString;
 use checker::check::check;
+use itoa::Buffer;
 use rules::layout::Layout;
-use rules::outcome::{Outcome, Reason, address, carries_address, number};
+use rules::outcome::Reason;
 
-fn layout() -> Layout
-    ensures { result ≡ paper_layout }
+// The line for what the check answered.
+// Not by `write!`: that says what it wrote only where it answers `Ok`, and no contract says where that is.
+#[tactic(auto, unfolding(crate::specs::Line::line_of), using(crate::proofs::Texts::numeral_decimal))]
+fn line_for(answer: Result<(), Reason>, bytes: usize) -> ArrayString<64>
+    ensures { result.bytes ≡ line_of (verdict_of answer) bytes }
 {
-    Layout {
-        code_start: 131_072,
-        trampoline_first: 65536,
-        trampoline_end: 131_072,
-        test_pairs: true,
+    let mut line = ArrayString::new();
+    match answer {
+        Ok(()) => {
+            line.push_str("accepted ");
+            line.push_str(Buffer::new().format(bytes));
+            line.push_str(" bytes\n");
+        }
+        Err(reason) => {
+            line.push_str("refused ");
+            line.push_str(Buffer::new().format(reason.number()));
+            if let Some(at) = reason.address() {
+                line.push_str(" at ");
+                line.push_str(Buffer::new().format(at));
+            }
+            line.push_str("\n");
+        }
     }
-}
-
-fn put_accepted(out: &mut [u8], bytes: usize) -> usize
-    requires { 64 ≤ length out.old }
-    ensures { Puts out.old 0 (line_of accepted bytes) out.new result }
-{
-    let word = put(out, 0, b"accepted ");
-    let size = put_number(out, word, bytes as u64);
-    put(out, size, b" bytes\n")
-}
-
-fn put_refused(out: &mut [u8], reason: Reason) -> usize
-    requires { 64 ≤ length out.old }
-    ensures { (bytes : ℕ) → Puts out.old 0 (line_of (reason_verdict reason) bytes) out.new result }
-{
-    let word = put(out, 0, b"refused ");
-    let told = put_number(out, word, number(reason) as u64);
-    if !carries_address(reason) {
-        return put(out, told, b"\n");
-    }
-    let at = put(out, told, b" at ");
-    let place = put_number(out, at, address(reason) as u64);
-    put(out, place, b"\n")
+    line
 }
 
 // Checks the code and puts the line at the start of out; the rest of out stays. Answers its length.
+// A buffer with its length beside, since docs/PROMISES.md names this signature and both clauses.
 pub fn line(code: &[u8], ledger: &mut [u32], out: &mut [u8; 64]) -> usize
     ensures lined { Lined code.now ledger.old out.old ledger.new out.new result }
     ensures prefix_len { IsPrefixLen result out.new }
 {
-    match check(layout(), code, ledger) {
-        Outcome::Accepted => put_accepted(out, code.len()),
-        Outcome::Refused(reason) => put_refused(out, reason),
-    }
+    let line = line_for(check(Layout::PAPER, code, ledger), code.len());
+    out[..line.len()].copy_from_slice(line.as_str().as_bytes());
+    line.len()
 }

@@ -4,7 +4,6 @@
 
 mod line;
 mod program;
-mod text;
 
 fn main(rt: HostRuntime) {
     program::run(&rt);

@@ -8,9 +8,10 @@ use mathlib.Core.Bool.{Bool, true, false, not, cond, ◌&&◌, ◌||◌, true≢
 use mathlib.Core.List.{[], ◌∷◌}
 use lib.Dec.{eqb, ltb}
 use borrow.Author.Tests.{eqb-true, eq-eqb}
+use Rattle.std.specs.Prelude.{Option, Some, None}
 use Rattle.pairs.specs.Mask.{has_top, has_place, masks, mask_bits, cleared_bits, is_data_mask, is_branch_mask, tests, test_bits, tested_bits, is_test}
 use Rattle.decoder.specs.Question.{base_of, branch_register, writes_sp, sp_written, keeps_flags, takes_sp}
-use Rattle.pairs.specs.Pair.{can_be_guarded, mask_guards, test_guards, branch_guards, closes, is_pair}
+use Rattle.pairs.specs.Pair.{some_and, can_be_guarded, mask_guards, test_guards, branch_guards, closes, is_pair}
 use Rattle.decoder.specs.declared.reading.DataFields.{DataFields}
 use Rattle.decoder.specs.declared.reading.Kind.{Kind}
 use Rattle.decoder.specs.declared.reading.Kind.TheVariants.{NoClass, Data, HalfMove, Nop, Multiply, Access, LiteralLoad, Branch, RegisterBranch, Head, Literal}
@@ -54,29 +55,51 @@ test_says r k e =
     let f = d.0 in
     (f, d.1, eqb-true _ _ (both (eqb f.operation 8) (eqb f.rn r) (right (tests r f) _ d.2)).0)
 
+-- ---- a register that may be none
+
+none_some : {r : ℕ} → ◌≡◌ {A = Option ℕ} None (Some r) → ⊥
+none_some e = cc
+
+some_same : {r t : ℕ} → ◌≡◌ {A = Option ℕ} (Some r) (Some t) → r ≡ t
+some_same e = cc
+
+some_says : (test : ℕ → Bool) (o : Option ℕ) → some_and o test ≡ true → (r : ℕ) × (o ≡ Some r) × (test r ≡ true)
+some_says test None e = absurd (false≢true e)
+some_says test (Some r) e = (r, refl, e)
+
 -- ---- the four pairs' tests, one by one
 
 module _ (first second : Reading) where
-  mask_guard : mask_guards first second ≡ true → (can_be_guarded (base_of second.kind) ≡ true) × (is_data_mask (base_of second.kind) first.kind ≡ true)
+  -- a guard's register, and the tests that it passes
+  mask_guard : mask_guards first second ≡ true → (r : ℕ) × (base_of second.kind ≡ Some r) × (can_be_guarded r ≡ true) × (is_data_mask r first.kind ≡ true)
   unfolding mask_guards
   mask_guard e =
-      let g = can_be_guarded (base_of second.kind) in
-      let m = is_data_mask (base_of second.kind) first.kind in
-      both g m (both (g && m) (eqb first.condition second.condition) e).0
+      let o = some_says (λ r. can_be_guarded r && is_data_mask r first.kind && eqb first.condition second.condition) (base_of second.kind) e in
+      let r = o.0 in
+      let g = can_be_guarded r in
+      let m = is_data_mask r first.kind in
+      let t = both g m (both (g && m) (eqb first.condition second.condition) o.2).0 in
+      (r, o.1, t.0, t.1)
 
-  test_guard : test_guards first second ≡ true → (can_be_guarded (base_of second.kind) ≡ true) × (is_test (base_of second.kind) first.kind ≡ true)
+  test_guard : test_guards first second ≡ true → (r : ℕ) × (base_of second.kind ≡ Some r) × (can_be_guarded r ≡ true) × (is_test r first.kind ≡ true)
   unfolding test_guards
   test_guard e =
-      let g = can_be_guarded (base_of second.kind) in
-      let m = is_test (base_of second.kind) first.kind in
-      both g m (both (g && m) (eqb first.condition 14) (both (g && m && eqb first.condition 14) (eqb second.condition 0) e).0).0
+      let o = some_says (λ r. can_be_guarded r && is_test r first.kind && eqb first.condition 14 && eqb second.condition 0) (base_of second.kind) e in
+      let r = o.0 in
+      let g = can_be_guarded r in
+      let m = is_test r first.kind in
+      let t = both g m (both (g && m) (eqb first.condition 14) (both (g && m && eqb first.condition 14) (eqb second.condition 0) o.2).0).0 in
+      (r, o.1, t.0, t.1)
 
-  branch_guard : branch_guards first second ≡ true → (ltb (branch_register second.kind) 16 ≡ true) × (is_branch_mask (branch_register second.kind) first.kind ≡ true)
+  branch_guard : branch_guards first second ≡ true → (r : ℕ) × (branch_register second.kind ≡ Some r) × (ltb r 16 ≡ true) × (is_branch_mask r first.kind ≡ true)
   unfolding branch_guards
   branch_guard e =
-      let g = ltb (branch_register second.kind) 16 in
-      let m = is_branch_mask (branch_register second.kind) first.kind in
-      both g m (both (g && m) (eqb first.condition second.condition) e).0
+      let o = some_says (λ r. ltb r 16 && is_branch_mask r first.kind && eqb first.condition second.condition) (branch_register second.kind) e in
+      let r = o.0 in
+      let g = ltb r 16 in
+      let m = is_branch_mask r first.kind in
+      let t = both g m (both (g && m) (eqb first.condition second.condition) o.2).0 in
+      (r, o.1, t.0, t.1)
 
   close_says : closes first second ≡ true → (writes_sp first.kind ≡ true) × (not (is_data_mask 13 first.kind) ≡ true) × (is_data_mask 13 second.kind ≡ true)
   unfolding closes
@@ -104,12 +127,12 @@ module _ (first second : Reading) where
 
 -- a data word is second only as the closing mask of r13
 second_data : (a b : Reading) (f : DataFields) → b.kind ≡ Data f → is_pair a b ≡ true → is_data_mask 13 b.kind ≡ true
-unfolding base_of branch_register can_be_guarded
+unfolding base_of branch_register
 second_data a b f k e =
     pair_cases a b e
-    (λ m. absurd (false≢true (simp k at (mask_guard a b m).0)))
-    (λ t. absurd (false≢true (simp k at (test_guard a b t).0)))
-    (λ g. absurd (false≢true (simp k at (branch_guard a b g).0)))
+    (λ m. absurd (none_some (simp k at (mask_guard a b m).1)))
+    (λ t. absurd (none_some (simp k at (test_guard a b t).1)))
+    (λ g. absurd (none_some (simp k at (branch_guard a b g).1)))
     (λ c. (close_says a b c).2)
 
 -- a first word is a data word
@@ -117,39 +140,36 @@ first_data : (b c : Reading) → is_pair b c ≡ true → (f : DataFields) × (b
 unfolding writes_sp
 first_data b c e =
     pair_cases b c e
-    (λ m. let s = data_mask_says _ _ (mask_guard b c m).1 in (s.fields, s.data'))
-    (λ t. let s = test_says _ _ (test_guard b c t).1 in (s.0, s.1))
-    (λ g. let s = branch_mask_says _ _ (branch_guard b c g).1 in (s.fields, s.data'))
+    (λ m. let s = data_mask_says _ _ (mask_guard b c m).3 in (s.fields, s.data'))
+    (λ t. let s = test_says _ _ (test_guard b c t).3 in (s.0, s.1))
+    (λ g. let s = branch_mask_says _ _ (branch_guard b c g).3 in (s.fields, s.data'))
     (λ d. let s = from_data sp_written false (λ y. y ≡ true) false≢true b.kind (close_says b c d).0 in (s.0, s.1))
 
-no_register : ◌≡◌ {A = ℕ} 16 13 → ⊥
-no_register e = omega arith
-
-on_sp : (k : Kind) → branch_register k ≡ 13 → takes_sp k ≡ true
+on_sp : (k : Kind) → branch_register k ≡ Some 13 → takes_sp k ≡ true
 unfolding branch_register takes_sp
-on_sp (RegisterBranch call rm) e = eq-eqb rm 13 e
-on_sp (NoClass why) e = absurd (no_register e)
-on_sp (Data f) e = absurd (no_register e)
-on_sp (HalfMove top rd number) e = absurd (no_register e)
-on_sp Nop e = absurd (no_register e)
-on_sp (Multiply f) e = absurd (no_register e)
-on_sp (Access f) e = absurd (no_register e)
-on_sp (LiteralLoad u rt distance) e = absurd (no_register e)
-on_sp (Branch call offset) e = absurd (no_register e)
-on_sp Head e = absurd (no_register e)
-on_sp (Literal low) e = absurd (no_register e)
+on_sp (RegisterBranch call rm) e = eq-eqb rm 13 (some_same e)
+on_sp (NoClass why) e = absurd (none_some e)
+on_sp (Data f) e = absurd (none_some e)
+on_sp (HalfMove top rd number) e = absurd (none_some e)
+on_sp Nop e = absurd (none_some e)
+on_sp (Multiply f) e = absurd (none_some e)
+on_sp (Access f) e = absurd (none_some e)
+on_sp (LiteralLoad u rt distance) e = absurd (none_some e)
+on_sp (Branch call offset) e = absurd (none_some e)
+on_sp Head e = absurd (none_some e)
+on_sp (Literal low) e = absurd (none_some e)
 
 -- a data mask of r13 is first only before a register branch on r13, as a branch mask of it
 closing_first : (b c : Reading) → is_data_mask 13 b.kind ≡ true → is_pair b c ≡ true → takes_sp c.kind ≡ true
 unfolding can_be_guarded
 closing_first b c m e =
     let s = data_mask_says _ _ m in
-    pair_cases b c e (λ g. let h = mask_guard b c g in absurd (true≢false (sym h.0 ∙ ap can_be_guarded (same_register s (data_mask_says _ _ h.1)))))
+    pair_cases b c e (λ g. let h = mask_guard b c g in absurd (true≢false (sym h.2 ∙ ap can_be_guarded (same_register s (data_mask_says _ _ h.3)))))
     (λ g.
-    let t = test_says _ _ (test_guard b c g).1 in
+    let t = test_says _ _ (test_guard b c g).3 in
     let o : s.fields.operation ≡ 8 = ap (λ (f : DataFields). f.operation) (data_same _ _ (sym s.data' ∙ t.1)) ∙ t.2 in
     absurd (eight o s.operation))
-    (λ g. on_sp c.kind (same_register s (branch_mask_says _ _ (branch_guard b c g).1)))
+    (λ g. let h = branch_guard b c g in on_sp c.kind (h.1 ∙ ap (λ (r : ℕ). Some r) (same_register s (branch_mask_says _ _ h.3))))
     (λ g. absurd (true≢false (sym (close_says b c g).1 ∙ ap not m)))
   where
     eight : {x : ℕ} → x ≡ 8 → x ≡ 14 → ⊥

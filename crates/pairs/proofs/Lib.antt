@@ -2,6 +2,7 @@
 pub mod Masks
 pub mod Exact
 pub mod Clears
+pub mod Numbers
 pub mod Roles
 pub mod Apart
 pub mod Plain

@@ -9,6 +9,8 @@ use Rattle.decoder.specs.Immediate.{rotated, value_of}
 use Rattle.decoder.specs.Question.{base_of, branch_register, writes_sp, keeps_flags}
 use Rattle.pairs.specs.Mask.{immediate_of, cleared_bits, is_data_mask, is_branch_mask, tested_bits, is_test}
 use Rattle.pairs.specs.Pair.{can_be_guarded, mask_guards, test_guards, branch_guards, closes, is_pair}
+use Rattle.pairs.specs.declared.role.Role.TheVariants.{Inner, Head}
+use Rattle.pairs.specs.Numbers.{role_number}
 use Rattle.pairs.specs.Role.{role_alone, role_after, roles_of}
 
 abbrev N : ℕ
@@ -64,6 +66,9 @@ pub record Points : Type 0 where
   pub behind_a_bic_from_r9 : roles 0xE3C9_0103 0xE580_1000 N N ≡ 0 ∷ 0 ∷ 0 ∷ 0 ∷ []
   pub sp_in_two_pairs : roles 0xE1A0_D000 0xE3CD_D13F 0xE12F_FF1D N ≡ 0 ∷ 1 ∷ 1 ∷ 0 ∷ []
   pub slot_2_not_behind_slot_0 : roles 0xE3C0_0103 N 0xE580_1000 N ≡ 0 ∷ 0 ∷ 0 ∷ 0 ∷ []
+  -- role::Role
+  pub inner_is_1 : role_number Inner ≡ 1
+  pub head_is_3 : role_number Head ≡ 3
 
 pub points : Points
 unfolding kind_of is_data is_compare is_move is_half_move is_nop is_multiply is_any_access is_literal_load is_access is_branch is_register_branch data_fields operand_of multiply_fields access_fields reading_of head_word readings_of rotated value_of base_of branch_register writes_sp keeps_flags immediate_of cleared_bits is_data_mask is_branch_mask tested_bits is_test can_be_guarded mask_guards test_guards branch_guards closes is_pair role_alone role_after roles_of

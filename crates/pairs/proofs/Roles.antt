@@ -5,13 +5,14 @@ use native.Mathlib.Omega.{arith}
 use native.Mathlib.Nat.{not-suc-le-zero, le_of_suc-le-suc}
 use mathlib.Core.Path.{◌≡◌, refl}
 use mathlib.Core.Logic.{◌↔◌}
-use mathlib.Core.Bool.{Bool, true, false, cond}
+use mathlib.Core.Bool.{Bool, true, false, cond, ◌&&◌}
 use mathlib.Core.List.{List, [], ◌∷◌}
 use lib.ListN.{length, get_or}
 use lib.Dec.{eqb, ltb, lit<}
+use Rattle.std.specs.Prelude.{Option, Some, None}
 use Rattle.pairs.specs.Mask.{cleared_bits, is_data_mask, is_branch_mask, tested_bits, is_test}
 use Rattle.decoder.specs.Question.{base_of, branch_register, writes_sp}
-use Rattle.pairs.specs.Pair.{can_be_guarded, mask_guards, test_guards, branch_guards, closes, is_pair}
+use Rattle.pairs.specs.Pair.{some_and, can_be_guarded, mask_guards, test_guards, branch_guards, closes, is_pair}
 use Rattle.decoder.specs.Bundle.{head_word, head_reading, literal_reading, readings_of, blank}
 use Rattle.pairs.specs.Role.{inner, data', head, role_alone, role_after, roles_of}
 use Rattle.decoder.specs.declared.reading.Reading.{Reading}
@@ -66,13 +67,26 @@ unfolding roles_of readings_of head_word head_reading literal_reading role_alone
 head_makes_data a b c = refl
 
 -- what stands for a neighbour outside the bundle is in no pair
+never : (test : ℕ → Bool) → ((r : ℕ) → test r ≡ false) → (o : Option ℕ) → some_and o test ≡ false
+never test h None = refl
+never test h (Some r) = h r
+
 blank_before : (r : Reading) → is_pair blank r ≡ false
 unfolding is_pair mask_guards test_guards branch_guards closes is_data_mask is_branch_mask is_test cleared_bits tested_bits writes_sp
 blank_before r =
-    by_test (can_be_guarded (base_of r.kind)) (λ g. by_test branches (λ b. simp (g, b)) (λ b. simp (g, b))) (λ g. by_test branches (λ b. simp (g, b)) (λ b. simp (g, b)))
+    let o = base_of r.kind in
+    let masked = never (λ x. can_be_guarded x && false && eqb 0 r.condition) (λ x. no_guard (can_be_guarded x) (eqb 0 r.condition)) o in
+    let tested = never (λ x. can_be_guarded x && false && false && eqb r.condition 0) (λ x. no_test (can_be_guarded x) (eqb r.condition 0)) o in
+    let branches = never (λ x. ltb x 16 && false && eqb 0 r.condition) (λ x. no_guard (ltb x 16) (eqb 0 r.condition)) (branch_register r.kind) in
+    simp (masked, tested, branches)
   where
-    branches : Bool
-    branches = ltb (branch_register r.kind) 16
+    no_guard : (g c : Bool) → g && false && c ≡ false
+    no_guard true c = refl
+    no_guard false c = refl
+
+    no_test : (g c : Bool) → g && false && false && c ≡ false
+    no_test true c = refl
+    no_test false c = refl
 
 alone_after : (r : Reading) → role_alone r.kind ≡ role_after blank r
 unfolding role_after

@@ -2,8 +2,11 @@
 -- itself, as the check reads it off the source.
 use mathlib.Core.Path.{◌∙◌, sym}
 use Rattle.decoder.proofs.Unique.{Unique}
+use Rattle.pairs.proofs.Numbers.{role_named, roles_named}
 use Rattle.pairs.proofs.role.role_after.Kinds as role_after_kinds
 use Rattle.pairs.proofs.role.role_after.Reads as role_after
+use Rattle.pairs.proofs.role.U32FromRole.from.Kinds as role_number_kinds
+use Rattle.pairs.proofs.role.U32FromRole.from.Reads as role_number
 use Rattle.pairs.proofs.role.roles.Kinds as roles_kinds
 use Rattle.pairs.proofs.role.roles.Reads as roles
 use Rattle.pairs.proofs.mask.is_data_mask.Kinds as is_data_mask_kinds
@@ -24,10 +27,10 @@ use Rattle.pairs.proofs.pair.is_pair.Kinds as is_pair_kinds
 use Rattle.pairs.proofs.pair.is_pair.Reads as is_pair
 
 pub role_after_unique : Unique role_after_kinds.ps role_after_kinds.r role_after.Post
-role_after_unique a u v x y p q = p ∙ sym q
+role_after_unique a u v x y p q = role_named u v (p ∙ sym q)
 
 pub roles_unique : Unique roles_kinds.ps roles_kinds.r roles.Post
-roles_unique a u v x y p q = p ∙ sym q
+roles_unique a u v x y p q = roles_named u v (p ∙ sym q)
 
 pub is_data_mask_unique : Unique is_data_mask_kinds.ps is_data_mask_kinds.r is_data_mask.Post
 is_data_mask_unique a u v x y p q = p ∙ sym q
@@ -52,3 +55,6 @@ closes_unique a u v x y p q = p ∙ sym q
 
 pub is_pair_unique : Unique is_pair_kinds.ps is_pair_kinds.r is_pair.Post
 is_pair_unique a u v x y p q = p ∙ sym q
+
+pub role_number_unique : Unique role_number_kinds.ps role_number_kinds.r role_number.Post
+role_number_unique a u v x y p q = p ∙ sym q

@@ -2,4 +2,5 @@
 pub mod Mask
 pub mod Pair
 pub mod Role
+pub mod Numbers
 pub mod Exact

@@ -1,10 +1,10 @@
 // Data masks, branch masks and test guards: the first words of the guarded pairs.
-ghost use Rattle.std.specs.Prelude.{◌≡◌, cond};
-ghost use Rattle.pairs.specs.Mask.{has_top, has_place, immediate_of, cleared_bits, is_data_mask, is_branch_mask, tested_bits, is_test};
+ghost use Rattle.std.specs.Prelude.{◌≡◌};
+ghost use Rattle.pairs.specs.Mask.{has_top, has_place, immediate_of, masks, cleared_bits, is_data_mask, is_branch_mask, tests, tested_bits, is_test};
 
 use decoder::immediate::value;
 use decoder::question::{PC, THREAD};
-use decoder::reading::{Kind, Operand};
+use decoder::reading::{DataFields, Kind, Operand};
 
 const TST: u32 = 8;
 
@@ -24,35 +24,37 @@ fn has_place(value: u32) -> bool
     value % 16 == 15
 }
 
-// An immediate's value where the word's other fields are right, and else no bits.
+// An immediate's value; another operand has no bits.
 #[tactic(auto, unfolding(crate::specs::Mask::immediate_of))]
-fn immediate(right: bool, operand: Operand) -> u32
-    ensures { result ≡ cond right (immediate_of operand) 0 }
+fn immediate(operand: Operand) -> u32
+    ensures { result ≡ immediate_of operand }
 {
-    if !right {
-        return 0;
+    match operand {
+        Operand::Immediate { rotation, byte } => value(rotation, byte),
+        _ => 0,
     }
-    let Operand::Immediate { rotation, byte } = operand else {
-        return 0;
-    };
-    value(rotation, byte)
 }
 
-// The bits that an immediate bic into r clears, from any register but r9 and pc; none of another word.
+// An S = 0 bic into r, from any register but r9 and pc.
+fn masks(r: u32, fields: DataFields) -> bool
+    ensures { result ≡ masks r fields }
+{
+    (fields.operation == BIC)
+        & (fields.s == 0)
+        & (fields.rd == r)
+        & !(fields.rn == THREAD)
+        & !(fields.rn == PC)
+}
+
+// The bits that such an immediate bic clears, and none of another word.
 #[tactic(auto, unfolding(crate::specs::Mask::cleared_bits))]
 fn cleared(r: u32, kind: Kind) -> u32
     ensures { result ≡ cleared_bits r kind }
 {
-    let Kind::Data(fields) = kind else {
-        return 0;
-    };
-    let right = (fields.operation == BIC)
-        & (fields.s == 0)
-        & (fields.rd == r)
-        & !(fields.rn == THREAD)
-        & !(fields.rn == PC);
-    let operand = fields.operand;
-    immediate(right, operand)
+    match kind {
+        Kind::Data(fields) if masks(r, fields) => immediate(fields.operand),
+        _ => 0,
+    }
 }
 
 // The word is a data mask of r.
@@ -72,17 +74,22 @@ pub fn is_branch_mask(r: u32, kind: Kind) -> bool
     has_top(bits) & has_place(bits)
 }
 
-// The bits that an immediate tst of r asks for; none of another word.
+// A tst of r.
+fn tests(r: u32, fields: DataFields) -> bool
+    ensures { result ≡ tests r fields }
+{
+    (fields.operation == TST) & (fields.rn == r)
+}
+
+// The bits that an immediate tst of r asks for, and none of another word.
 #[tactic(auto, unfolding(crate::specs::Mask::tested_bits))]
 fn tested(r: u32, kind: Kind) -> u32
     ensures { result ≡ tested_bits r kind }
 {
-    let Kind::Data(fields) = kind else {
-        return 0;
-    };
-    let right = (fields.operation == TST) & (fields.rn == r);
-    let operand = fields.operand;
-    immediate(right, operand)
+    match kind {
+        Kind::Data(fields) if tests(r, fields) => immediate(fields.operand),
+        _ => 0,
+    }
 }
 
 // The word tests at least the bits of r that a data mask clears.

@@ -42,16 +42,16 @@ pub record Points : Type 0 where
   -- layout::length_holds
   pub longest_code : length_holds 65536 ≡ true
   pub words_no_bundle : length_holds 20 ≡ false
-  -- outcome::number
+  -- Reason::number
   pub patch_shape_12 : number_of (reason_verdict PatchShape) ≡ 12
   pub disagreement_13 : number_of (reason_verdict Disagreement) ≡ 13
-  -- outcome::carries_address
+  -- Reason::address, that there is one
   pub patch_shape_alone : carries_address (reason_verdict PatchShape) ≡ false
   pub stranded_at : carries_address (reason_verdict (Stranded 131092)) ≡ true
-  -- outcome::address
+  -- Reason::address
   pub stranded_address : place_of (reason_verdict (Stranded 131092)) ≡ 131092
   pub patch_shape_address : place_of (reason_verdict PatchShape) ≡ 0
-  -- outcome::why
+  -- Reason::why
   pub why_of_a_system_call : why_in (reason_verdict (NoClass SystemCall 131072)) ≡ 2
   pub no_why_beside_5 : why_in (reason_verdict (Register 131072)) ≡ 0
   -- rule::rule4
@@ -78,23 +78,23 @@ pub record Points : Type 0 where
   -- rule::rule9
   pub call_in_slot_2 : rule9 (kind_of 0xEBFF_FFFE) 2 ≡ true
   pub call_in_slot_3 : rule9 (kind_of 0xEBFF_FFFB) 3 ≡ false
-  -- rule::rule10
+  -- Region::rule10
   pub literal_straddles_the_end : rule10 (at 131073 131072 true) 1 (At 131076) ≡ true
   pub literal_past_the_end : rule10 paper 4 (At 131088) ≡ true
-  -- rule::rule11
+  -- Region::rule11
   pub trampoline_off_16 : rule11 paper 4 (At 65540) 0 ≡ true
   pub lands_on_inner : rule11 paper 4 (At 131076) 1 ≡ true
   pub lands_on_a_head : rule11 paper 4 (At 131072) 3 ≡ false
-  -- rule::landing
+  -- Region::landing
   pub negative_lands_nowhere : landing_of paper 4 Below ≡ 4
   pub past_the_end_lands_nowhere : landing_of paper 4 (At 131088) ≡ 4
   -- rule::landable
   pub inner_not_landable : landable 1 ≡ false
   pub head_landable : landable 3 ≡ true
-  -- rule::rules
+  -- Setting::rules
   pub breaks_8_and_9 : rules_alone 0xE12F_FF30 0 ≡ false ∷ false ∷ false ∷ false ∷ true ∷ true ∷ false ∷ false ∷ []
   pub breaks_9_alone : rules_alone 0xEBFF_FFFE 2 ≡ false ∷ false ∷ false ∷ false ∷ false ∷ true ∷ false ∷ false ∷ []
-  -- rule::fault
+  -- Setting::fault
   pub lowest_of_5_and_8 : fault_alone 0xE12F_FF39 0 ≡ 5
   pub lowest_of_8_and_9 : fault_alone 0xE12F_FF30 0 ≡ 8
   pub call_9 : fault_alone 0xEBFF_FFFE 2 ≡ 9

@@ -13,8 +13,7 @@ use Rattle.decoder.specs.declared.reading.Why.{Why}
 use Rattle.decoder.specs.declared.reading.Why.TheVariants.{Unlisted}
 use Rattle.rules.specs.declared.outcome.Reason.{Reason}
 use Rattle.rules.specs.declared.outcome.Reason.TheVariants.{Layout, CodeLength, LedgerLength, NoClass, Register, StackPointer, Access, RegisterBranch, Call, LiteralLoad, Target, PatchShape, Disagreement, Stranded}
-use Rattle.rules.specs.declared.outcome.Outcome.{Outcome}
-use Rattle.rules.specs.declared.outcome.Outcome.TheVariants.{Accepted, Refused}
+use Rattle.std.specs.Prelude.{Result, Ok, Err}
 use Rattle.rules.specs.Outcome.{Verdict, accepted, refused, refused_at, no_class, reason_verdict, verdict_of, number_of, carries_address, place_of, why_in}
 use Rattle.rules.specs.contracts.outcome.Reason as declared
 use Rattle.rules.proofs.Refusal.{Told, bare_told, no_class_told}
@@ -91,8 +90,8 @@ pub reason_not : (r : Reason) → reason_verdict r ≡ accepted → ⊥
 reason_not r e = omega (arith, ap number_of e, reason_refuses r)
 
 -- an answer's verdict says which answer it is
-pub verdict_tells : (r s : Outcome) → verdict_of r ≡ verdict_of s → r ≡ s
-verdict_tells Accepted Accepted e = refl
-verdict_tells Accepted (Refused s) e = absurd (reason_not s (sym e))
-verdict_tells (Refused r) Accepted e = absurd (reason_not r e)
-verdict_tells (Refused r) (Refused s) e = ap Refused (sym (lawful r).named ∙ ap reason_of e ∙ (lawful s).named)
+pub verdict_tells : (r s : Result (Unit {0}) Reason) → verdict_of r ≡ verdict_of s → r ≡ s
+verdict_tells (Ok u) (Ok v) e = refl
+verdict_tells (Ok u) (Err s) e = absurd (reason_not s (sym e))
+verdict_tells (Err r) (Ok v) e = absurd (reason_not r e)
+verdict_tells (Err r) (Err s) e = ap (λ (r : Reason). Err r) (sym (lawful r).named ∙ ap reason_of e ∙ (lawful s).named)

@@ -1,13 +1,11 @@
 -- The paper's number, its address where it has one, and beside 4 the why, for each answer.
-use Rattle.std.specs.Prelude.{ℕ, Bool, true, false}
+use Rattle.std.specs.Prelude.{ℕ, Bool, true, false, cond, eqb, Result, Ok, Err}
 use Rattle.decoder.specs.declared.reading.Why.{Why}
 use Rattle.decoder.specs.declared.reading.Kind.{Kind}
 use Rattle.decoder.specs.Kinds.{of_no_class}
 use Rattle.decoder.specs.Question.{why_number}
 use Rattle.rules.specs.declared.outcome.Reason.{Reason}
 use Rattle.rules.specs.declared.outcome.Reason.TheVariants.{Layout, CodeLength, LedgerLength, NoClass, Register, StackPointer, Access, RegisterBranch, Call, LiteralLoad, Target, PatchShape, Disagreement, Stranded}
-use Rattle.rules.specs.declared.outcome.Outcome.{Outcome}
-use Rattle.rules.specs.declared.outcome.Outcome.TheVariants.{Accepted, Refused}
 
 -- what the paper fixes of an answer
 pub data Verdict : Type 0 where
@@ -36,9 +34,10 @@ reason_verdict PatchShape = refused 12
 reason_verdict Disagreement = refused 13
 reason_verdict (Stranded at) = refused_at 14 at
 
-abbrev pub verdict_of : Outcome → Verdict
-verdict_of Accepted = accepted
-verdict_of (Refused reason) = reason_verdict reason
+-- a call accepts, or refuses for a reason
+abbrev pub verdict_of : Result (Unit {0}) Reason → Verdict
+verdict_of (Ok accepts) = accepted
+verdict_of (Err reason) = reason_verdict reason
 
 -- the number of a refusal, and 0 where there is none
 abbrev pub number_of : Verdict → ℕ
@@ -70,3 +69,7 @@ why_in (no_class why at) = why_number why
 -- the refusal of a word at an address for its lowest number: a word in no class breaks 4, and the why of its reading is passed on
 abbrev pub refusal_of : Kind → ℕ → ℕ → Verdict
 refusal_of k number at = of_no_class (λ why. no_class why at) (refused_at number at) k
+
+-- what is told of a word at an address: nothing where its lowest number is 0
+abbrev pub word_verdict : Kind → ℕ → ℕ → Verdict
+word_verdict k number at = cond (eqb number 0) accepted (refusal_of k number at)

@@ -9,7 +9,7 @@ use Rattle.decoder.specs.declared.place.Place.TheVariants.{Absent, Below, At}
 use Rattle.pairs.specs.Mask.{is_data_mask}
 use Rattle.decoder.specs.Place.{target_of, literal_of}
 use Rattle.decoder.specs.Question.{names, base_of, branch_register, writes_sp, takes_sp, is_call, in_no_class}
-use Rattle.pairs.specs.Pair.{mask_guards, test_guards, branch_guards, closes}
+use Rattle.pairs.specs.Pair.{some_and, mask_guards, test_guards, branch_guards, closes}
 use Rattle.pairs.specs.Role.{plain, head}
 use Rattle.rules.specs.declared.layout.Layout.{Layout}
 
@@ -33,11 +33,11 @@ wants_guard r = ltb r 16 && not (eqb r 9) && not (eqb r 13) && not (eqb r 15)
 -- 7: an access on such a register has no guard, or only a test guard with the switch off
 unfoldable pub rule7 : Layout → Reading → Reading → Bool
 rule7 l before word =
-    wants_guard (base_of word.kind) && not (mask_guards before word || (l.test_pairs && test_guards before word))
+    some_and (base_of word.kind) wants_guard && not (mask_guards before word || (l.test_pairs && test_guards before word))
 
 -- 8: a register branch has no guard
 unfoldable pub rule8 : Reading → Reading → Bool
-rule8 before word = ltb (branch_register word.kind) 16 && not (branch_guards before word)
+rule8 before word = some_and (branch_register word.kind) (λ r. ltb r 16) && not (branch_guards before word)
 
 -- 9: a call isn't in slot 3
 unfoldable pub rule9 : Kind → ℕ → Bool

@@ -13,7 +13,7 @@ const TRAMPOLINES_TO: u32 = 131_072;
 
 const BUNDLE: u32 = 16;
 
-#[derive(Clone, Copy)]
+#[derive(Clone, Copy, Debug, PartialEq, Eq)]
 pub struct Layout {
     pub code_start: u32,
     pub trampoline_first: u32,
@@ -23,23 +23,33 @@ pub struct Layout {
     pub test_pairs: bool,
 }
 
+impl Layout {
+    // That of the paper's bench.
+    pub const PAPER: Layout = Layout {
+        code_start: 131_072,
+        trampoline_first: 65536,
+        trampoline_end: 131_072,
+        test_pairs: true,
+    };
+}
+
 // Rule 1 is kept. The length is used as given, whatever it is.
 #[tactic(auto, unfolding(crate::specs::Layout::layout_holds, crate::specs::Layout::sandbox_end))]
 pub fn layout_holds(layout: Layout, length: usize) -> bool
     ensures { result ≡ layout_holds layout length }
 {
-    let start = layout.code_start;
-    let first = layout.trampoline_first;
-    let end = layout.trampoline_end;
+    let Layout {
+        code_start: start,
+        trampoline_first: first,
+        trampoline_end: end,
+        ..
+    } = layout;
     let whole = (start % BUNDLE == 0) & (first % BUNDLE == 0) & (end % BUNDLE == 0);
     let ordered = (TRAMPOLINES_FROM <= first)
         & (first <= end)
         & (end <= TRAMPOLINES_TO)
         & (TRAMPOLINES_TO <= start);
-    if length as u64 > SANDBOX_END {
-        return false;
-    }
-    whole & ordered & (start as u64 + length as u64 <= SANDBOX_END)
+    length as u64 <= SANDBOX_END && whole & ordered & (start as u64 + length as u64 <= SANDBOX_END)
 }
 
 // Rule 2 is kept.
@@ -47,5 +57,5 @@ pub fn layout_holds(layout: Layout, length: usize) -> bool
 pub fn length_holds(length: usize) -> bool
     ensures { result ≡ length_holds length }
 {
-    (16 <= length) & (length <= CODE_LIMIT) & (length % 16 == 0)
+    (16..=CODE_LIMIT).contains(&length) & (length % 16 == 0)
 }

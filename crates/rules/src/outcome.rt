@@ -1,11 +1,12 @@
-// What a call answers: accepted, or refused for a reason, with its address where it has one.
-ghost use Rattle.std.specs.Prelude.{◌≡◌};
+// What a call that refuses says: the reason, with its address where it has one.
+ghost use Rattle.std.specs.Prelude.{◌≡◌, is_some, unwrap_or};
+ghost use Rattle.std.specs.Option.{option_map_or};
+ghost use Rattle.decoder.specs.Question.{why_number};
 ghost use Rattle.rules.specs.Outcome.{reason_verdict, number_of, carries_address, place_of, why_in};
 
-use decoder::question::why_number;
 use decoder::reading::Why;
 
-#[derive(Clone, Copy)]
+#[derive(Clone, Copy, Debug, PartialEq, Eq)]
 pub enum Reason {
     // 1: the layout breaks a rule.
     Layout,
@@ -37,70 +38,59 @@ pub enum Reason {
     Stranded { at: u32 },
 }
 
-#[derive(Clone, Copy)]
-pub enum Outcome {
-    Accepted,
-    Refused(Reason),
-}
-
-// The paper's number of a reason.
-pub fn number(reason: Reason) -> u32
-    ensures { result ≡ number_of (reason_verdict reason) }
-{
-    match reason {
-        Reason::Layout => 1,
-        Reason::CodeLength => 2,
-        Reason::LedgerLength => 3,
-        Reason::NoClass { why: _, at: _ } => 4,
-        Reason::Register { at: _ } => 5,
-        Reason::StackPointer { at: _ } => 6,
-        Reason::Access { at: _ } => 7,
-        Reason::RegisterBranch { at: _ } => 8,
-        Reason::Call { at: _ } => 9,
-        Reason::LiteralLoad { at: _ } => 10,
-        Reason::Target { at: _ } => 11,
-        Reason::PatchShape => 12,
-        Reason::Disagreement => 13,
-        Reason::Stranded { at: _ } => 14,
+impl Reason {
+    // The paper's number.
+    pub fn number(self) -> u32
+        ensures { result ≡ number_of (reason_verdict self) }
+    {
+        match self {
+            Reason::Layout => 1,
+            Reason::CodeLength => 2,
+            Reason::LedgerLength => 3,
+            Reason::NoClass { .. } => 4,
+            Reason::Register { .. } => 5,
+            Reason::StackPointer { .. } => 6,
+            Reason::Access { .. } => 7,
+            Reason::RegisterBranch { .. } => 8,
+            Reason::Call { .. } => 9,
+            Reason::LiteralLoad { .. } => 10,
+            Reason::Target { .. } => 11,
+            Reason::PatchShape => 12,
+            Reason::Disagreement => 13,
+            Reason::Stranded { .. } => 14,
+        }
     }
-}
 
-// 4 to 11 and 14 carry an address, the others none.
-pub fn carries_address(reason: Reason) -> bool
-    ensures { result ≡ carries_address (reason_verdict reason) }
-{
-    let n = number(reason);
-    ((4 <= n) & (n <= 11)) | (n == 14)
-}
-
-// The address, or 0 where there is none.
-pub fn address(reason: Reason) -> u32
-    ensures { result ≡ place_of (reason_verdict reason) }
-{
-    match reason {
-        Reason::Layout => 0,
-        Reason::CodeLength => 0,
-        Reason::LedgerLength => 0,
-        Reason::NoClass { why: _, at } => at,
-        Reason::Register { at } => at,
-        Reason::StackPointer { at } => at,
-        Reason::Access { at } => at,
-        Reason::RegisterBranch { at } => at,
-        Reason::Call { at } => at,
-        Reason::LiteralLoad { at } => at,
-        Reason::Target { at } => at,
-        Reason::PatchShape => 0,
-        Reason::Disagreement => 0,
-        Reason::Stranded { at } => at,
+    // 4 to 11 and 14 carry an address, the others none.
+    pub fn address(self) -> Option<u32>
+        ensures carries { is_some result ≡ carries_address (reason_verdict self) }
+        ensures place { unwrap_or result 0 ≡ place_of (reason_verdict self) }
+    {
+        match self {
+            Reason::NoClass { at, .. }
+            | Reason::Register { at }
+            | Reason::StackPointer { at }
+            | Reason::Access { at }
+            | Reason::RegisterBranch { at }
+            | Reason::Call { at }
+            | Reason::LiteralLoad { at }
+            | Reason::Target { at }
+            | Reason::Stranded { at } => Some(at),
+            Reason::Layout
+            | Reason::CodeLength
+            | Reason::LedgerLength
+            | Reason::PatchShape
+            | Reason::Disagreement => None,
+        }
     }
-}
 
-// The number of the why beside 4, or 0 where there is none.
-pub fn why(reason: Reason) -> u32
-    ensures { result ≡ why_in (reason_verdict reason) }
-{
-    match reason {
-        Reason::NoClass { why, at: _ } => why_number(why),
-        _ => 0,
+    // Beside 4, why the word is in no class.
+    pub fn why(self) -> Option<Why>
+        ensures { option_map_or why_number result 0 ≡ why_in (reason_verdict self) }
+    {
+        match self {
+            Reason::NoClass { why, .. } => Some(why),
+            _ => None,
+        }
     }
 }

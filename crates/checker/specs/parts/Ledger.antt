@@ -1,13 +1,9 @@
 -- What the parts of the two calls that write the ledger do to it. An entry is 4 x count + role.
-use Rattle.std.specs.Prelude.{ℕ, ◌+◌, ◌*◌, ◌/◌, ◌≤◌, ◌<◌, ◌≡◌, Bool, true, false, cond, List, eqb, leb, length, get_or}
+use Rattle.std.specs.Prelude.{ℕ, ◌+◌, ◌*◌, ◌/◌, ◌≤◌, ◌<◌, ◌≡◌, Bool, true, false, cond, List, Result, MatchResult, eqb, leb, length, get_or}
 use Rattle.rules.specs.declared.layout.Layout.{Layout}
 use Rattle.checker.specs.Lists.{all}
 use Rattle.checker.specs.Region.{role_at}
 use Rattle.checker.specs.Standing.{landings}
-
--- every entry is 0
-pub record Cleared (before after : List ℕ) : Type 0 where
-  pub zero : (i : ℕ) → i < length before → get_or after i 0 ≡ 0
 
 -- the roles of words from .. to - 1 of bytes that stand at word `first` are written, and counts kept
 pub record RolesWritten (bytes : List ℕ) (first from to : ℕ) (before after : List ℕ) : Type 0 where
@@ -43,13 +39,13 @@ pub record Moved (on : Bool) (c : ℕ → ℕ) (before after : List ℕ) (r : Bo
   pub yes' : r ≡ true → (i : ℕ) → i < length before → Moves on (get_or before i 0) (get_or after i 0) (c i)
   pub no' : r ≡ false → after ≡ before
 
--- the landings of the first r words are moved; r is all of the words asked for, or the first whose landing finds a count at its bound
-pub record MovedFirst (on : Bool) (l : Layout) (bytes : List ℕ) (first asked : ℕ) (before after : List ℕ) (r : ℕ) : Type 0 where
-  pub most : r ≤ asked
-  pub moved : Moved on (landings l (length before) bytes first r) before after true
-  pub stop : r < asked → can_move on before (landings l (length before) bytes first (r + 1)) ≡ false
+-- the landings of the words before k are moved; that of word k, one of those asked for, finds a count at its bound
+pub record StopsAt (on : Bool) (l : Layout) (bytes : List ℕ) (first asked : ℕ) (before after : List ℕ) (k : ℕ) : Type 0 where
+  pub inside : k < asked
+  pub moved : Moved on (landings l (length before) bytes first k) before after true
+  pub stop : can_move on before (landings l (length before) bytes first (k + 1)) ≡ false
 
--- the old bundles' branches off and the new ones' on, entry by entry
-pub record Swapped (l : Layout) (old new : List ℕ) (first : ℕ) (before after : List ℕ) : Type 0 where
-  pub moved : (i : ℕ) → i < length before
-      → get_or after i 0 + 4 * landings l (length before) old first (length old / 4) i ≡ get_or before i 0 + 4 * landings l (length before) new first (length new / 4) i
+-- of the words asked for, the landings of all are moved, or of those before one that stops it
+abbrev pub MovesUpTo : Bool → Layout → List ℕ → ℕ → ℕ → List ℕ → List ℕ → Result (Unit {0}) ℕ → Type 0
+MovesUpTo on l bytes first asked before after r =
+    MatchResult r (λ _. Moved on (landings l (length before) bytes first asked) before after true) (StopsAt on l bytes first asked before after)

@@ -7,9 +7,3 @@ pub record Stands (l : Layout) (n : ℕ) (bytes : List ℕ) (first : ℕ) : Type
   pub whole : length bytes % 16 ≡ 0
   pub inside : first + length bytes / 4 ≤ n
   pub below : l.code_start + 4 * n ≤ 2 ^ 31
-
--- old and new bundles, as many, at the same place
-pub record BothStand (l : Layout) (n : ℕ) (old new : List ℕ) (first : ℕ) : Type 0 where
-  pub old' : Stands l n old first
-  pub new' : Stands l n new first
-  pub same : length old ≡ length new

@@ -10,5 +10,5 @@ pub returns : goal.returns
 returns c =
     let bound : c.if-on.bound ≡ cond c.args.on (length c.args.ledger.now) 0 =
     elim c.if-on.branch [ then-on w ↦ w.bound-is ∙ sym (rw w.if-on.true) | else-on w ↦ w.bound-is ∙ sym (rw w.if-on.false) ] in
-    one_moved _ _ _ c.requires.1 c.if-words-j.false _ bound c.if-entry-bound.false _
+    one_moved _ _ _ c.requires.2 c.requires.0 _ bound c.if-entry-bound.false _
     (elim c.if-on-2.branch [ then-on-2 w ↦ w.ledger-is ∙ sym (rw w.if-on-2.true) | else-on-2 w ↦ w.ledger-is ∙ sym (rw w.if-on-2.false) ])

@@ -1,28 +1,23 @@
 -- What the counts tell of 13 and 14, and that what was taken off is put on again.
-use Rattle.checker.proofs.Exchange.{uncounted, exchanged, kept_out}
+use Rattle.std.proofs.Common.{refl, arith, ◌+◌, ◌/◌, ◌≤◌, length}
+use mathlib.Core.Path.{ap}
+use Rattle.rules.specs.declared.region.Region.{Region}
+use Rattle.checker.proofs.Exchange.{exchanged, kept_out}
 use Rattle.checker.proofs.patch.exchange.Goals as goal
 
-pub returns-then-not-move_all : goal.returns-then-not-move_all
-returns-then-not-move_all c =
-    let a = c.args in
-    let off = c.move_all in
-    uncounted a.layout a.old.now a.new.now a.first _ _ off.auto.ledger off.result off.ensures c.if-not-move_all.true
-
-pub returns-then-move_all : goal.returns-then-move_all
-returns-then-move_all c =
-    let a = c.args in
-    let off = c.move_all in
-    let on = c.move_all-2 in
-    let stranded = c.first_stranded-strand in
-    exchanged a.layout a.old.now a.new.now a.first _ _ off.auto.ledger off.result off.ensures c.requires.1 c.if-not-move_all.false
-    _ on.result on.ensures stranded.result stranded.ensures c.requires.0.new'.inside c.if-move_all.true
+pub returns-in-Err : goal.returns-in-Err
+returns-in-Err c =
+    let old = c.args.old.now in
+    let on = rw (c.requires.place.0, c.requires.place.1) at c.in-Err.ensures.moved in
+    let again = c.move_all-in-Err in
+    kept_out old.region.layout old.bytes.now c.args.new.now.bytes.now old.first _ _ c.move_all.auto.ledger _ c.in_ok-move_all.ensures.moved c.requires.ledger.1 refl
+    _ _ on refl _ _ again.auto.ledger again.ensures.moved _ c.in-Err.ensures.reason
 
 pub returns : goal.returns
 returns c =
-    let a = c.args in
-    let off = c.move_all in
-    let on = c.move_all-2 in
-    let again = c.move_all-3 in
-    let stranded = c.first_stranded-strand in
-    kept_out a.layout a.old.now a.new.now a.first _ _ off.auto.ledger off.result off.ensures c.requires.1 c.if-not-move_all.false
-    _ on.result on.ensures stranded.result stranded.ensures c.requires.0.new'.inside c.if-move_all.false _ again.result again.auto.ledger again.ensures
+    let old = c.args.old.now in
+    let inside : old.first + length c.args.new.now.bytes.now / 4 ≤ length c.args.ledger.now =
+    rw (← c.requires.place.1) (omega (arith, c.args.new.now.stands.inside, c.requires.ledger.0, ap (λ (r : Region). r.words) c.requires.place.0)) in
+    let on = rw (c.requires.place.0, c.requires.place.1) at c.in_default.ensures.moved in
+    exchanged old.region.layout old.bytes.now c.args.new.now.bytes.now old.first _ _ c.move_all.auto.ledger _ c.in_ok-move_all.ensures.moved c.requires.ledger.1 refl
+    _ _ on refl _ (rw c.requires.place.1 at c.first_stranded-strand.ensures) inside

@@ -40,7 +40,7 @@ at_once n j x e h =
     ∙ sym (exchanged n j (x / 2 ^ n) (x % 2 ^ n) e (mod-lt x (pow_pos n)))
     ∙ ap (rotated n) (split x n)
 
--- by no place, both shifts leave x as it is
+-- what `rotate_right` says: by no place, both parts leave x as it is
 shifts : (n x : ℕ) → n < 32 → x < 2 ^ 32 → bit_or (x / 2 ^ n) (x * 2 ^ ((32 - n) % 32) % 2 ^ 32) ≡ rotated n x
 unfolding rotated
 shifts zero x l h = ap₂ bit_or (div-one x) (ap (λ (y : ℕ). y % 2 ^ 32) (mul-one x) ∙ mod-eq_of_lt h) ∙ or_self x
@@ -49,4 +49,10 @@ shifts (suc n) x l h =
 
 pub returns : goal.returns
 unfolding value_of
-returns c = shifts (2 * (c.args.rotation % 16)) c.args.byte (omega arith) (omega arith)
+returns c =
+    let n : ℕ = 2 * (c.args.rotation % 16) in
+    let x = c.args.byte in
+    let below : n % 32 ≡ n = mod-eq_of_lt (omega arith) in
+    c.rotate_right.ensures
+    ∙ ap (λ (k : ℕ). bit_or (x / 2 ^ k) (x * 2 ^ ((32 - k) % 32) % 2 ^ 32)) below
+    ∙ shifts n x (omega arith) (omega arith)
