@@ -21,17 +21,6 @@ const NO_TEST_PAIRS: Layout = Layout {
     ..Layout::PAPER
 };
 
-fn print_reason(rt: &impl Print, reason: Reason) -> io::Result<()> {
-    print!(rt; "refused {}", reason.number())?;
-    if let Some(at) = reason.address() {
-        print!(rt; " at {at}")?;
-    }
-    if let Some(why) = reason.why() {
-        print!(rt; ", why {}", u32::from(why))?;
-    }
-    println!(rt)
-}
-
 // What a call answered, and the ledger's entries, if any, where it accepts.
 fn print_answer(rt: &impl Print, answer: Result<(), Reason>, ledger: &[u32]) -> io::Result<()> {
     match answer {
@@ -45,7 +34,7 @@ fn print_answer(rt: &impl Print, answer: Result<(), Reason>, ledger: &[u32]) -> 
             }
             println!(rt)
         }
-        Err(reason) => print_reason(rt, reason),
+        Err(reason) => println!(rt; "refused {reason}"),
     }
 }
 

@@ -2,26 +2,29 @@
 use Prim.Native.Nat.{ℕ, ◌+◌, ◌*◌, ◌/◌, ◌%◌, ◌≤◌, ◌<◌}
 use native.Mathlib.Nat.{zero-add, sub-zero, add_comm}
 use native.Mathlib.Omega.{arith}
-use mathlib.Core.Path.{◌≡◌, ◌∙◌, refl, ap, ap₂, subst}
+use mathlib.Core.Path.{◌≡◌, ◌∙◌, refl, sym, ap, ap₂, subst}
 use mathlib.Core.Bool.{Bool, true, false, cond}
 use mathlib.Core.List.{List}
 use lib.Dec.{eqb, ltb}
 use lib.ListN.{length, get_or}
-use borrow.Author.Tests.{lt-ltb, le-leb, ltb-true}
+use borrow.Author.Tests.{eq-eqb, lt-ltb, le-leb, ltb-true}
 use Rattle.decoder.specs.declared.place.Place.{Place}
+use Rattle.decoder.specs.declared.reading.Reading.{Reading}
 use Rattle.decoder.proofs.Bools.{by_test}
-use Rattle.std.specs.Prelude.{Result}
+use Rattle.std.specs.Prelude.{Result, Err}
 use Rattle.rules.specs.declared.layout.Layout.{Layout}
 use Rattle.rules.specs.declared.outcome.Reason.{Reason}
-use Rattle.rules.specs.Layout.{address_of}
-use Rattle.rules.specs.Outcome.{accepted, reason_verdict}
+use Rattle.rules.specs.Layout.{layout_holds, length_holds, address_of}
+use Rattle.rules.proofs.Reasons.{reason_not}
+use Rattle.checker.proofs.Demands.{after_refusal}
+use Rattle.rules.specs.Outcome.{accepted, reason_verdict, refusal_of}
 use Rattle.rules.specs.Rule.{landing_of, fault_of}
 use Rattle.checker.specs.Lists.{first_from}
 use Rattle.checker.specs.parts.Fault.{Faultless, FirstFault, first_verdict}
 use Rattle.checker.specs.Region.{role_at, before_at, reading_at, next_at}
 use Rattle.checker.specs.Standing.{target_at, landing_at, landings, target_role, fault_at, role_from, standing_fault}
 use Rattle.checker.specs.parts.Ledger.{RolesWritten, Within, fits, can_move, MovesUpTo}
-use Rattle.checker.specs.Check.{words_of, code_fault, words_verdict, entry_of, ledger_of}
+use Rattle.checker.specs.Check.{words_of, code_fault, words_verdict, check_verdict, entry_of, ledger_of, Checked}
 use Rattle.checker.proofs.First.{first_same}
 use Rattle.checker.proofs.Faults.{first_refused, first_passed}
 use Rattle.checker.proofs.Lists.{sum_most, all_yes, list_is}
@@ -70,6 +73,23 @@ module _ (l : Layout) (code before : List ℕ) (words : length before ≡ words_
 
   pub words_passed : Faultless l before code 0 0 (words_of code) → words_verdict l code ≡ accepted
   words_passed f = found ∙ first_passed l before code 0 accepted f
+
+-- 1, 2 and 3 are kept, and a word breaks a rule: the first that does, with the lowest number there, is the answer
+module _ (l : Layout) (code before : List ℕ) (e1 : layout_holds l (length code) ≡ true) (e2 : length_holds (length code) ≡ true) (words : length before ≡ words_of code) where
+  by_words : check_verdict l code (length before) ≡ words_verdict l code
+  unfolding check_verdict
+  by_words = simp (e1, e2, eq-eqb _ _ words)
+
+  pub checked_word : (at number : ℕ) → at ≡ first_from (standing_fault l before code 0) 0 (length code / 4)
+      → number ≡ cond (ltb at (0 + length code / 4)) (standing_fault l before code 0 at) 0 → (number ≡ 0 → ⊥)
+      → (word : Reading) → word ≡ reading_at code at → (reason : Reason) → reason_verdict reason ≡ refusal_of word.kind number (address_of l at) → Checked l code before before (Err reason)
+  unfolding first_verdict
+  checked_word at number place value n word read reason e =
+      let inside : ltb at (length code / 4) ≡ true = by_test (ltb at (length code / 4)) (λ t. t) (λ f. absurd (n (value ∙ ap (λ (b : Bool). cond b (standing_fault l before code 0 at) 0) (ap (ltb at) (zero-add (length code / 4)) ∙ f)))) in
+      let here : number ≡ standing_fault l before code 0 at = value ∙ ap (λ (b : Bool). cond b (standing_fault l before code 0 at) 0) (ap (ltb at) (zero-add (length code / 4)) ∙ inside) in
+      let v : check_verdict l code (length before) ≡ refusal_of word.kind number (address_of l at) =
+      by_words ∙ found l code before words ∙ rw (← place, zero-add at) (simp inside (ap₂ (λ (w : Reading) (x : ℕ). refusal_of w.kind x (address_of l at)) (sym read) (sym here))) in
+      record { verdict = e ∙ sym v; ledger = sym (after_refusal _ _ _ (λ z. reason_not reason (e ∙ sym v ∙ z))) }
 
 -- ---- the ledger
 

@@ -1,20 +1,24 @@
 -- The patch, on plain values: each of its answers is the one that the definition gives.
 use Prim.Native.Nat.{ℕ, ◌+◌, ◌-◌, ◌*◌, ◌/◌, ◌%◌, ◌≤◌, ◌<◌}
-use native.Mathlib.Nat.{le_refl}
+use native.Mathlib.Nat.{zero-add, le_refl}
 use native.Mathlib.Omega.{arith}
-use mathlib.Core.Path.{◌≡◌, ◌∙◌, refl, sym, ap, subst}
-use mathlib.Core.Bool.{true, ◌&&◌}
+use mathlib.Core.Path.{◌≡◌, ◌∙◌, refl, sym, ap, ap₂, subst}
+use mathlib.Core.Bool.{Bool, true, cond, ◌&&◌}
 use mathlib.Core.List.{List}
+use lib.Dec.{ltb}
 use lib.ListN.{length, get_or}
 use borrow.Author.Tests.{lt-ltb, le-ltb, le-leb, lt-leb}
 use Rattle.std.specs.Prelude.{Option, Some, None, Ok, Err}
 use Rattle.rules.specs.declared.layout.Layout.{Layout}
 use Rattle.rules.specs.declared.outcome.Reason.{Reason}
-use Rattle.rules.specs.Outcome.{Verdict, accepted, reason_verdict}
+use Rattle.decoder.specs.declared.reading.Reading.{Reading}
+use Rattle.decoder.proofs.Bools.{by_test}
+use Rattle.rules.specs.Layout.{address_of}
+use Rattle.rules.specs.Outcome.{Verdict, accepted, reason_verdict, refusal_of}
 use Rattle.rules.proofs.Reasons.{reason_not}
 use Rattle.checker.specs.Lists.{first_from}
 use Rattle.checker.specs.parts.Fault.{first_verdict}
-use Rattle.checker.specs.Region.{role_at}
+use Rattle.checker.specs.Region.{reading_at, role_at}
 use Rattle.checker.specs.Standing.{landings, role_from, fault_at, standing_fault}
 use Rattle.checker.specs.parts.Ledger.{RolesWritten}
 use Rattle.checker.specs.Check.{words_of, ledger_after}
@@ -63,8 +67,23 @@ module _ {l : Layout} {ledger : List ℕ} {first : ℕ} {old new mid : List ℕ}
       let k = first_from (standing_fault l ledger new first) 0 (words_of new) in
       rw (same, faults_kept k, strand_is) (simp g.agreed)
 
-  pub faulty : (reason : Reason) → reason_verdict reason ≡ first_verdict l mid new first (strand_verdict l first strand) → (after : List ℕ) → after ≡ ledger → PatchedWords l ledger first old new after (Err reason)
-  faulty reason e after same = let v = new_words ∙ sym e in record { verdict = sym v; ledger' = same ∙ sym (after_refusal _ _ _ (λ z. reason_not reason (sym v ∙ z))) }
+  -- a refusal, with nothing changed
+  pub refused : (reason : Reason) → reason_verdict reason ≡ first_verdict l mid new first (strand_verdict l first strand) → (after : List ℕ) → after ≡ ledger → PatchedWords l ledger first old new after (Err reason)
+  refused reason e after same = let v = new_words ∙ sym e in record { verdict = sym v; ledger' = same ∙ sym (after_refusal _ _ _ (λ z. reason_not reason (sym v ∙ z))) }
+
+  -- that of the first new word that breaks a rule: no entry is changed, and no old byte
+  pub faulty : (at number : ℕ) → at ≡ first_from (standing_fault l ledger new first) 0 (length new / 4)
+      → number ≡ cond (ltb at (0 + length new / 4)) (standing_fault l ledger new first at) 0 → (number ≡ 0 → ⊥)
+      → (word : Reading) → word ≡ reading_at new at → (reason : Reason) (after : List ℕ) → reason_verdict reason ≡ refusal_of word.kind number (address_of l (first + at)) → after ≡ ledger
+      → PatchedWords l ledger first old new after (Err reason) × (old ≡ ledger_after (bundles_verdict l ledger first old new) new old)
+  unfolding bundles_verdict new_words_verdict
+  faulty at number place value n word read reason after e same =
+      let inside : ltb at (length new / 4) ≡ true = by_test (ltb at (length new / 4)) (λ t. t) (λ f. absurd (n (value ∙ ap (λ (b : Bool). cond b (standing_fault l ledger new first at) 0) (ap (ltb at) (zero-add (length new / 4)) ∙ f)))) in
+      let here : number ≡ standing_fault l ledger new first at = value ∙ ap (λ (b : Bool). cond b (standing_fault l ledger new first at) 0) (ap (ltb at) (zero-add (length new / 4)) ∙ inside) in
+      let v : bundles_verdict l ledger first old new ≡ refusal_of word.kind number (address_of l (first + at)) =
+      simp g.agreed (rw (← place) (simp inside (ap₂ (λ (w : Reading) (x : ℕ). refusal_of w.kind x (address_of l (first + at))) (sym read) (sym here)))) in
+      let no : bundles_verdict l ledger first old new ≡ accepted → ⊥ = λ z. reason_not reason (e ∙ sym v ∙ z) in
+      (record { verdict = e ∙ sym v; ledger' = same ∙ sym (after_refusal _ _ _ no) }, sym (after_refusal _ _ _ no))
 
   pub patched : accepted ≡ first_verdict l mid new first (strand_verdict l first strand) → (after : List ℕ) → after ≡ moved_ledger l ledger first old new → PatchedWords l ledger first old new after (Ok tt)
   unfolding ledger_after

@@ -20,10 +20,10 @@ impl Bundles<'_> {
         requires { j < length ledger.now }
         ensures { result ≡ role_from ledger.now self.now.bytes.now self.now.first j }
     {
-        if self.first <= j && j - self.first < self.len() {
-            return self.role_at(j - self.first);
+        match j.checked_sub(self.first) {
+            Some(k) if k < self.len() => self.role_at(k),
+            _ => ledger[j] % 4,
         }
-        ledger[j] % 4
     }
 
     // The role of the word that a target lands on. Where it lands on none, plain stands for it.

@@ -1,4 +1,5 @@
-// Writing the ledger: an entry is 4 x count + role.
+// Writing the ledger: an entry is 4 x count + role. `Within` is a clause of what moves counts, and no fact of a
+// type: a struct round the `&mut` would need a clause in the same four, that the slice in it stays the same.
 ghost use Rattle.std.specs.Prelude.{◌≡◌, ◌+◌, ◌*◌, ◌/◌, ◌^◌, ◌≤◌, ◌<◌, length, IfSome, unwrap_or};
 ghost use Rattle.checker.specs.Check.{words_of};
 ghost use Rattle.checker.specs.Standing.{landing_at};
@@ -33,9 +34,9 @@ impl Bundles<'_> {
         ensures { RolesWritten self.now.bytes.now self.now.first (4 * b) (4 * b + 4) ledger.old ledger.new }
     {
         let roles = roles(self.bundle(b));
-        for slot in 0..4 {
+        for (slot, role) in roles.iter().enumerate() {
             let j = self.first + (4 * b + slot);
-            ledger[j] = ledger[j] / 4 * 4 + u32::from(roles[slot]);
+            ledger[j] = ledger[j] / 4 * 4 + u32::from(*role);
         }
     }
 

@@ -22,8 +22,8 @@ use rules::rule::landable;
 fn counts_hold(ledger: &[u32]) -> bool
     ensures { result ≡ counts_hold ledger.now }
 {
-    // By number: what `iter` yields, an `Option` of a reference, has another form on 32-bit ARM, which box/build
-    // refuses.
+    // Over the numbers: `iter().all` goes by an `Option` of a reference, which has another form on 32-bit ARM, so
+    // box/build refuses it.
     let words = ledger.len();
     (0..words).all(|j| (ledger[j] / 4) as usize <= words)
 }
@@ -43,7 +43,7 @@ impl Bundles<'_> {
         requires { length ledger.now ≡ self.now.region.words }
         ensures { Strands (count_at ledger.now) self.now.bytes.now self.now.first result }
     {
-        (0..self.len()).find(|k| !landable(self.role_at(*k)) & (ledger[self.first + *k] / 4 != 0))
+        (0..self.len()).find(|k| ledger[self.first + *k] / 4 != 0 && !landable(self.role_at(*k)))
     }
 
     // All the landings are put on, or taken off; where a count would pass its bound, nothing is changed.
@@ -54,6 +54,7 @@ impl Bundles<'_> {
         ensures reason { IfErr result (λ reason. reason ≡ Disagreement) }
     {
         if let Err(k) = self.move_landings(ledger, self.len(), on) {
+            // What was moved can be moved back.
             let _ = self.move_landings(ledger, k, !on);
             return Err(Reason::Disagreement);
         }
@@ -87,6 +88,7 @@ fn exchange(ledger: &mut [u32], old: &Bundles, new: &Bundles) -> Result<Option<u
     old.move_all(ledger, false)?;
     let strand = new.first_stranded(ledger);
     if let Err(reason) = new.move_all(ledger, true) {
+        // What was taken off can be put on again.
         let _ = old.move_all(ledger, true);
         return Err(reason);
     }

@@ -10,6 +10,7 @@ use decoder::bundle::{reading, readings};
 use decoder::reading::{Kind, Reading, Why};
 use pairs::role::role_after;
 use rules::region::Region;
+use std::array;
 
 // They stand from word `first` on. The ledger is handed to their methods beside them: the old and the new
 // bundles of a patch share one, which is written between.
@@ -64,13 +65,7 @@ impl Bundles<'_> {
         requires { b < length self.now.bytes.now / 16 }
         ensures { result ≡ bundle_at self.now.bytes.now b }
     {
-        let k = 4 * b;
-        readings([
-            self.word(k),
-            self.word(k + 1),
-            self.word(k + 2),
-            self.word(k + 3),
-        ])
+        readings(array::from_fn(|slot| self.word(4 * b + slot)))
     }
 
     // The reading of word k alone.

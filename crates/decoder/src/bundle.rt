@@ -29,7 +29,7 @@ pub fn reading(first: u32, word: u32, slot: usize) -> Reading
     }
 }
 
-// Written out: by `array::from_fn` the check took a fifth longer.
+// Written out: by `array::from_fn` the check is a fifth slower, and docs/PERFORMANCE.md allows a tenth.
 #[tactic(auto, unfolding(crate::specs::Bundle::readings_of, crate::specs::Bundle::slot_reading))]
 pub fn readings(words: [u32; 4]) -> [Reading; 4]
     ensures { result ≡ readings_of words }

@@ -6,7 +6,7 @@ use crate::access::list_names;
 use crate::reading::{Kind, Moved, MultiplyFields, Operand, Why};
 use crate::word::{is_compare, is_move};
 
-// How many there are.
+// How many registers there are.
 pub const REGISTERS: u32 = 16;
 
 // Those that the rules speak of.

@@ -1,7 +1,7 @@
 // A reading: a condition and one kind with its own fields. It keeps every field that decides what the
 // word does when it runs, each as the number that stands in the word. The questions (`question::names` and
-// the others) answer for every number there, so a bit or an operation is no bool and no enum: either would
-// ask more of their callers.
+// the others) answer for every number there, so a bit, an operation or a condition is no bool and no
+// enum: either would ask more of their callers.
 
 // What a data word works on beside Rn.
 #[derive(Clone, Copy, Debug, PartialEq, Eq)]

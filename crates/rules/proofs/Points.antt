@@ -3,6 +3,8 @@ use Prim.Native.Nat.{ℕ}
 use mathlib.Core.Path.{◌≡◌}
 use mathlib.Core.Bool.{Bool, true, false}
 use mathlib.Core.List.{List, [], ◌∷◌}
+use Rattle.std.specs.Prelude.{codes}
+use Rattle.std.specs.Fmt.{digits}
 use Rattle.decoder.specs.Word.{is_compare, is_move, is_data, operand_of, data_fields, is_half_move, is_nop, is_multiply, multiply_fields, is_any_access, is_literal_load, is_access, access_fields, is_branch, is_register_branch, why_of, kind_of, reading_of}
 use Rattle.decoder.specs.Bundle.{literal_reading, blank}
 use Rattle.decoder.specs.Immediate.{rotated, value_of}
@@ -13,9 +15,10 @@ use Rattle.decoder.specs.declared.place.Place.TheVariants.{Below, At}
 use Rattle.pairs.specs.Mask.{immediate_of, cleared_bits, is_data_mask, is_branch_mask, tested_bits, is_test}
 use Rattle.pairs.specs.Pair.{can_be_guarded, mask_guards, test_guards, branch_guards, closes}
 use Rattle.rules.specs.declared.layout.Layout.{Layout}
-use Rattle.rules.specs.declared.outcome.Reason.TheVariants.{NoClass, Register, PatchShape, Disagreement, Stranded}
+use Rattle.rules.specs.declared.outcome.Reason.TheVariants.{NoClass, Register, Access, PatchShape, Disagreement, Stranded}
 use Rattle.rules.specs.Layout.{sandbox_end, code_limit, layout_holds, length_holds}
 use Rattle.rules.specs.Outcome.{reason_verdict, number_of, carries_address, place_of, why_in}
+use Rattle.rules.specs.Text.{refusal_text}
 use Rattle.rules.specs.Rule.{rule4, rule5, rule6, wants_guard, rule7, rule8, rule9, literal_holds, rule10, word_at_address, landing_of, in_trampolines, landable, rule11, rules_of, lowest_from, fault_of}
 
 abbrev N : ℕ
@@ -54,6 +57,10 @@ pub record Points : Type 0 where
   -- Reason::why
   pub why_of_a_system_call : why_in (reason_verdict (NoClass SystemCall 131072)) ≡ 2
   pub no_why_beside_5 : why_in (reason_verdict (Register 131072)) ≡ 0
+  -- Reason::fmt
+  pub text_of_4 : refusal_text (reason_verdict (NoClass SystemCall 131080)) ≡ codes "4 at 131080, why 2"
+  pub text_of_7 : refusal_text (reason_verdict (Access 131076)) ≡ codes "7 at 131076"
+  pub text_of_12 : refusal_text (reason_verdict PatchShape) ≡ codes "12"
   -- rule::rule4
   pub svc_refused : rule4 (kind_of 0xEF00_0000) ≡ true
   pub data_never_refused : rule4 (literal_reading 0xEF00_0000).kind ≡ false
@@ -100,5 +107,5 @@ pub record Points : Type 0 where
   pub call_9 : fault_alone 0xEBFF_FFFE 2 ≡ 9
 
 pub points : Points
-unfolding kind_of is_data is_compare is_move is_half_move is_nop is_multiply is_any_access is_literal_load is_access is_branch is_register_branch why_of data_fields operand_of multiply_fields access_fields reading_of literal_reading rotated value_of behind signed_step target_of literal_of operand_names names base_of branch_register writes_sp keeps_flags takes_sp is_call in_no_class immediate_of cleared_bits is_data_mask is_branch_mask tested_bits is_test can_be_guarded mask_guards test_guards branch_guards closes sandbox_end code_limit layout_holds length_holds rule4 rule5 rule6 wants_guard rule7 rule8 rule9 literal_holds rule10 word_at_address landing_of in_trampolines landable rule11 rules_of lowest_from fault_of
+unfolding kind_of is_data is_compare is_move is_half_move is_nop is_multiply is_any_access is_literal_load is_access is_branch is_register_branch why_of data_fields operand_of multiply_fields access_fields reading_of literal_reading rotated value_of behind signed_step target_of literal_of operand_names names base_of branch_register writes_sp keeps_flags takes_sp is_call in_no_class immediate_of cleared_bits is_data_mask is_branch_mask tested_bits is_test can_be_guarded mask_guards test_guards branch_guards closes sandbox_end code_limit layout_holds length_holds rule4 rule5 rule6 wants_guard rule7 rule8 rule9 literal_holds rule10 word_at_address landing_of in_trampolines landable rule11 rules_of lowest_from fault_of digits
 points = search

@@ -1,4 +1,6 @@
--- What a reader must believe of the rules, in the order of "Region, layout, ledger" and "When the gate stays shut".
+-- What a reader must believe of the rules, in the order of "Region, layout, ledger" and "When the gate stays shut"; then the text of a
+-- refusal.
 pub mod Layout
 pub mod Outcome
 pub mod Rule
+pub mod Text

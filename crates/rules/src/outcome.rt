@@ -1,10 +1,13 @@
 // What a call that refuses says: the reason, with its address where it has one.
-ghost use Rattle.std.specs.Prelude.{◌≡◌, is_some, unwrap_or};
+ghost use Rattle.std.specs.Prelude.{◌≡◌, Some, is_some, unwrap_or};
 ghost use Rattle.std.specs.Option.{option_map_or};
 ghost use Rattle.decoder.specs.Question.{why_number};
 ghost use Rattle.rules.specs.Outcome.{reason_verdict, number_of, carries_address, place_of, why_in};
+ghost use Rattle.rules.specs.Text.{refusal_text};
 
 use decoder::reading::Why;
+use std::error::Error;
+use std::fmt;
 
 #[derive(Clone, Copy, Debug, PartialEq, Eq)]
 pub enum Reason {
@@ -94,3 +97,21 @@ impl Reason {
         }
     }
 }
+
+// `12`, `7 at 131076` or `4 at 131080, why 2`.
+impl fmt::Display for Reason {
+    ghost output = { λ reason. Some (refusal_text (reason_verdict reason)) };
+
+    fn fmt<W: fmt::Write>(&self, f: &mut fmt::Formatter<W>) -> fmt::Result {
+        write!(f, "{}", self.number())?;
+        if let Some(at) = self.address() {
+            write!(f, " at {at}")?;
+        }
+        if let Some(why) = self.why() {
+            write!(f, ", why {}", u32::from(why))?;
+        }
+        Ok(())
+    }
+}
+
+impl Error for Reason {}

@@ -126,6 +126,7 @@ impl Setting {
         if let Kind::NoClass(why) = self.word.kind {
             return Err(Reason::NoClass { why, at });
         }
+        // 5 to 11, in their places behind that of 4.
         match self.rules() {
             [_, true, ..] => Err(Reason::Register { at }),
             [_, _, true, ..] => Err(Reason::StackPointer { at }),

@@ -4,7 +4,7 @@ use mathlib.Core.Path.{◌∙◌, sym, ap}
 use Rattle.rules.specs.declared.region.Region.{Region}
 use Rattle.checker.proofs.Exchange.{counts_within}
 use Rattle.checker.proofs.Undo.{Agreed, within_after, undone}
-use Rattle.checker.proofs.Patches.{exchange_says, faulty, patched, ledger_moved}
+use Rattle.checker.proofs.Patches.{exchange_says, refused, patched, ledger_moved}
 use Rattle.checker.proofs.patch.patch_words.Goals as goal
 use Rattle.checker.proofs.patch.patch_words.Goals.{In_ok-strand}
 
@@ -30,7 +30,7 @@ pub returns-in-Err : goal.returns-in-Err
 returns-in-Err c =
     let g = agreed (goal.at.returns-in-Err c).In_ok-strand in
     let back = c.exchange-in-Err in
-    faulty g c.in-Err.fault (rw (c.requires.place.0, c.requires.place.1) at c.in-Err.ensures) _
+    refused g c.in-Err.fault (rw (c.requires.place.0, c.requires.place.1) at c.in-Err.ensures) _
     (undone g _ back.result back.auto.ledger (rw (c.requires.place.0, c.requires.place.1) at back.ensures))
 
 pub returns : goal.returns
