@@ -20,7 +20,6 @@ use Rattle.checker.specs.Region.{reading_at, before_at, next_at}
 use Rattle.checker.specs.Standing.{target_at, target_role, role_from, fault_at, standing_fault}
 use Rattle.checker.specs.parts.Fault.{Faultless, FirstFault, Tests, first_verdict}
 use Rattle.checker.proofs.First.{first_is, first_none}
-use Rattle.checker.proofs.Lists.{split}
 
 module _ (l : Layout) (ledger bytes : List ℕ) (first : ℕ) where
   -- a word's setting tells of its fault
@@ -44,9 +43,6 @@ module _ (l : Layout) (ledger bytes : List ℕ) (first : ℕ) where
         breaks' = breaks';
         says = t ∙ simp (ne_eqb (standing_fault l ledger bytes first k) 0 breaks');
       }
-
-  pub faultless_then : (from mid to : ℕ) → Faultless l ledger bytes first from mid → Faultless l ledger bytes first mid to → Faultless l ledger bytes first from to
-  faultless_then from mid to p q = λ j a b. split mid j (λ h. q j h b) (λ h. p j a h)
 
   pub first_refused : (v : Verdict) (reason : Reason) → FirstFault l ledger bytes first 0 (length bytes / 4) reason → first_verdict l ledger bytes first v ≡ reason_verdict reason
   unfolding first_verdict

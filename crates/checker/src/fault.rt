@@ -26,7 +26,7 @@ impl Bundles<'_> {
         }
     }
 
-    // The role of the word that a target lands on. Where it lands on none, plain stands for it.
+    // The role of the word that a target lands on, by its number too. Where it lands on none, plain stands for it.
     #[tactic(auto, unfolding(crate::specs::Standing::target_role))]
     fn target_role(&self, ledger: &[u32], target: Place) -> u32
         requires { length ledger.now ≡ self.now.region.words }

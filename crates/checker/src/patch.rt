@@ -116,6 +116,7 @@ fn patch_words(ledger: &mut [u32], old: &Bundles, new: &Bundles) -> Result<(), R
 }
 
 // Not `copy_from_slice`: it compares addresses, which box/build refuses, as a module does on one machine alone.
+// By place, as `zip` left three goals open.
 fn copy(old: &mut [u8], new: &[u8])
     requires { length old.old ≡ length new.now }
     ensures { old.new ≡ new.now }

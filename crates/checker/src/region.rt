@@ -48,7 +48,7 @@ impl Bundles<'_> {
         self.region.layout.code_start + (4 * (self.first + k)) as u32
     }
 
-    // Word k, little-endian.
+    // Word k, little-endian. Its bytes are named one by one: a part of four, made an array, could fail.
     #[tactic(auto, unfolding(crate::specs::Region::word_at))]
     fn word(&self, k: usize) -> u32
         requires { k < words_of self.now.bytes.now }

@@ -11,7 +11,8 @@ use rules::layout::Layout;
 use rules::outcome::Reason;
 
 // The line for what the check answered.
-// Not by `write!`: that says what it wrote only where it answers `Ok`, and no contract says where that is.
+// By `write!` the proof stayed open: that says what it wrote only where it answers `Ok`, and no contract says
+// where that is.
 #[tactic(auto, unfolding(crate::specs::Line::line_of), using(crate::proofs::Texts::numeral_decimal))]
 fn line_for(answer: Result<(), Reason>, bytes: usize) -> ArrayString<64>
     ensures { result.bytes ≡ line_of (verdict_of answer) bytes }

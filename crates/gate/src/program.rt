@@ -13,7 +13,7 @@ const MOST: usize = 65537;
 
 // Reads until the input ends, a read fails or the buffer is full, and answers how many bytes it put at
 // the start of the buffer.
-// Not the slice itself: the answer would then hold the buffer, and `err` could not speak of it.
+// Tried: the slice itself as the answer. It holds the buffer then, and `err` could not speak of it.
 #[tactic(auto, using(crate::proofs::Reading::read_behind))]
 fn read_code<R: Read>(input: &mut R, code: &mut [u8]) -> io::Result<usize>
     ensures prefix_len { IfOk result (λ bytes. IsPrefixLen bytes code.new) }

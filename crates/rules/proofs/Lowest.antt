@@ -7,7 +7,7 @@ use mathlib.Core.Path.{◌≡◌, ◌∙◌, refl, sym, ap, subst}
 use mathlib.Core.Bool.{Bool, true, false, true≢false}
 use mathlib.Core.List.{List, [], ◌∷◌}
 use lib.Dec.{eqb, ltb}
-use lib.ListN.{length, get_or, get_or-eq_default}
+use lib.ListN.{length, get_or}
 use borrow.Author.Tests.{eqb-true, eqb-false, eq-eqb, ne_eqb, lt-ltb, le-ltb, ltb-true, ltb-false}
 use Rattle.decoder.specs.declared.reading.Reading.{Reading}
 use Rattle.decoder.proofs.Bools.{by_test}
@@ -26,11 +26,6 @@ pub record FirstIn (bs : List Bool) (place : ℕ) : Type 0 where
   pub yes' : get_or bs place false ≡ true
   pub below : (j : ℕ) → j < place → get_or bs j false ≡ false
   pub within : place < length bs
-
--- past the end none does
-pub none_in : (bs : List Bool) → ((j : ℕ) → j < length bs → get_or bs j false ≡ false) → NoneIn bs
-none_in bs h =
-    record { no' = λ j. by_test (ltb j (length bs)) (λ t. h j (ltb-true _ _ t)) (λ t. get_or-eq_default bs false (ltb-false _ _ t)) }
 
 pub none_lowest : (i : ℕ) (bs : List Bool) → NoneIn bs → lowest_from i bs ≡ 0
 unfolding lowest_from

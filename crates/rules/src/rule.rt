@@ -75,7 +75,7 @@ pub fn rule9(kind: Kind, slot: u32) -> bool
     is_call(kind) & !(slot == 3)
 }
 
-// The roles that a direct branch may land on. Any number is a role here, as an entry of a ledger may hold it.
+// The roles that a direct branch may land on. It is promised for every number, so it takes no `Role`.
 #[tactic(auto, unfolding(crate::specs::Rule::landable))]
 pub fn landable(role: u32) -> bool
     ensures { result ≡ landable role }

@@ -1,4 +1,5 @@
 -- One landing moved: the bound, and the entry after it, go by the direction.
+-- Kept: without it the check does not find this.
 use Rattle.std.proofs.Common.{◌≡◌, length}
 use mathlib.Core.Path.{◌∙◌, sym}
 use mathlib.Core.Bool.{cond}

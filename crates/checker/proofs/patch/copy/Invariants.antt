@@ -1,4 +1,5 @@
 -- The bytes passed are the new ones.
+-- Kept: what the loop carries.
 use Rattle.std.proofs.Common.{◌≡◌, ℕ, ◌<◌, get_or}
 use Rattle.checker.proofs.patch.copy.Given as goal
 

@@ -1,4 +1,5 @@
 -- What the counts tell of 13 and 14, and that what was taken off is put on again.
+-- Kept: without it the check does not find this.
 use Rattle.std.proofs.Common.{refl, arith, ◌+◌, ◌/◌, ◌≤◌, length}
 use mathlib.Core.Path.{ap}
 use Rattle.rules.specs.declared.region.Region.{Region}

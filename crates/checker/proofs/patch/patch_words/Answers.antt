@@ -1,4 +1,5 @@
 -- Where 13 is passed the new words decide, and a refusal has undone what was moved.
+-- Kept: without it the check does not find this.
 use Rattle.std.proofs.Common.{arith}
 use mathlib.Core.Path.{◌∙◌, sym, ap}
 use Rattle.rules.specs.declared.region.Region.{Region}

@@ -1,4 +1,5 @@
 -- An access is a literal load, or is read with what it moves.
+-- Kept: without it the check does not find this.
 use mathlib.Core.Path.{◌∙◌, sym, ap}
 use Rattle.decoder.specs.Bits.{bits}
 use Rattle.decoder.specs.Word.{rn_of, access_fields}

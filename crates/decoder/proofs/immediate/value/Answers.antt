@@ -1,4 +1,5 @@
 -- To rotate is to exchange what lies above a place and what lies below it, which two shifts do at once.
+-- Kept: without it the check does not find this.
 use Prim.Native.Nat.{ℕ, zero, suc, ◌+◌, ◌-◌, ◌*◌, ◌/◌, ◌%◌, ◌^◌, ◌<◌}
 use mathlib.Core.Path.{◌≡◌, ◌∙◌, sym, ap, ap₂, subst}
 use native.Mathlib.Omega.{arith}

@@ -1,4 +1,5 @@
 -- The ones of the list are the registers that it names.
+-- Kept: without it the check does not find this.
 use mathlib.Core.Path.{◌∙◌, sym, ap}
 use Prim.Native.Nat.{ℕ, ◌*◌}
 use lib.Dec.{lit≤}

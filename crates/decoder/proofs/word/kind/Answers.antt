@@ -1,4 +1,5 @@
 -- Bits 27..25 say which classes are left to ask.
+-- Kept: without it the check does not find this.
 use borrow.Author.Tests.{eq-eqb, ne_eqb}
 use mathlib.Core.Path.{◌∙◌, sym, ap}
 use Rattle.decoder.specs.Bits.{bits}

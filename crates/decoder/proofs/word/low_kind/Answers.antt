@@ -1,4 +1,5 @@
 -- Each class that takes the word says its kind, and the others have other bits 27..25.
+-- Kept: without it the check does not find this.
 use borrow.Author.Tests.{eq-eqb, ne_eqb}
 use native.Mathlib.Omega.{arith}
 use mathlib.Core.Path.{◌∙◌, sym, ap}

@@ -1,4 +1,5 @@
 -- What the reader gave so far stands at the start of the buffer.
+-- Kept: what the loop carries.
 use Rattle.std.proofs.Common.{length, take, ◌-◌, ◌≤◌}
 use Rattle.std.specs.Io.KnownBytes.{Consumes}
 use Rattle.gate.proofs.program.read_code.Given as goal

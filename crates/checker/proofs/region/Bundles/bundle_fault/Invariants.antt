@@ -1,4 +1,5 @@
 -- No word of the slots passed breaks a rule, and `before` and `word` are the readings at the slot.
+-- Kept: what the loop carries.
 use Rattle.std.proofs.Common.{◌≡◌, ◌+◌, ◌<◌}
 use Rattle.checker.specs.Region.{reading_at, before_at}
 use Rattle.checker.specs.parts.Fault.{Faultless}

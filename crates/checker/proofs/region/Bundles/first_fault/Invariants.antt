@@ -1,4 +1,5 @@
 -- No word of the bundles passed breaks a rule.
+-- Kept: what the loop carries.
 use Rattle.std.proofs.Common.{◌*◌}
 use Rattle.checker.specs.parts.Fault.{Faultless}
 use Rattle.checker.proofs.region.Bundles.first_fault.Given as goal

@@ -1,4 +1,5 @@
 -- The first that is stranded, as the walk over the words finds it.
+-- Kept: without it the check does not find this.
 use Rattle.std.proofs.Common.{rules, ℕ, ◌+◌, ◌/◌, Bool, not, ◌&&◌, cond, eqb, length, get_or, refl, arith}
 use Rattle.std.proofs.lemmas.Iterator.{YieldsList-from_range}
 use Rattle.std.proofs.lemmas.Iterator.Adapters.{option_map_id}

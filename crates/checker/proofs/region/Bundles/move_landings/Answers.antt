@@ -1,4 +1,5 @@
 -- One landing more, or none where the word lands on none, until a count is at its bound.
+-- Kept: without it the check does not find this.
 use Rattle.std.proofs.Common.{arith, true, refl}
 use Rattle.checker.proofs.Moving.{within_then, one_nowhere, next_moved, next_refused}
 use Rattle.checker.proofs.region.Bundles.move_landings.Goals as goal

@@ -1,4 +1,5 @@
 -- The landings of the words passed are moved.
+-- Kept: what the loop carries.
 use Rattle.std.proofs.Common.{true, length}
 use Rattle.checker.specs.Standing.{landings}
 use Rattle.checker.specs.parts.Ledger.{Moved}

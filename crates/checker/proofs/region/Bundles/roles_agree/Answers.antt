@@ -1,4 +1,5 @@
 -- Every entry has its role, as the walk over the words tells.
+-- Kept: without it the check does not find this.
 use Rattle.std.proofs.Common.{rules, ◌+◌, ◌%◌, ◌/◌, eqb, length, get_or, refl, arith}
 use Rattle.std.proofs.lemmas.Iterator.{YieldsList-from_range}
 use Rattle.std.proofs.lemmas.Iterator.Search.{all_from_yields_List}

@@ -1,4 +1,5 @@
 -- One role more.
+-- Kept: without it the check does not find this.
 use Rattle.std.proofs.Common.{arith, ◌+◌, ◌*◌}
 use mathlib.Core.Path.{◌∙◌, ap}
 use native.Mathlib.Nat.{add_assoc}

@@ -1,4 +1,5 @@
 -- The roles of the bundles passed are written.
+-- Kept: what the loop carries.
 use Rattle.std.proofs.Common.{◌*◌}
 use Rattle.checker.specs.parts.Ledger.{RolesWritten}
 use Rattle.checker.proofs.region.Bundles.write_roles.Given as goal
