@@ -2,9 +2,10 @@
 use Rattle.std.specs.Prelude.{ℕ}
 use Rattle.pairs.specs.declared.role.Role.{Role}
 use Rattle.pairs.specs.declared.role.Role.TheVariants.{Plain, Inner, Data, Head}
+use Rattle.pairs.specs.Role.{plain, inner, data', head}
 
 abbrev pub role_number : Role → ℕ
-role_number Plain = 0
-role_number Inner = 1
-role_number Data = 2
-role_number Head = 3
+role_number Plain = plain
+role_number Inner = inner
+role_number Data = data'
+role_number Head = head
