@@ -25,8 +25,8 @@ use Rattle.checker.specs.Region.{role_at, before_at, reading_at, next_at}
 use Rattle.checker.specs.Standing.{target_at, landing_at, landings, target_role, fault_at, role_from, standing_fault}
 use Rattle.checker.specs.parts.Ledger.{RolesWritten, Within, fits, can_move, MovesUpTo}
 use Rattle.checker.specs.Check.{words_of, code_fault, words_verdict, check_verdict, entry_of, ledger_of, Checked}
-use Rattle.checker.proofs.First.{first_same}
-use Rattle.checker.proofs.Faults.{first_refused, first_passed}
+use Rattle.checker.proofs.First.{first_same, first_is}
+use Rattle.checker.proofs.Faults.{first_passed}
 use Rattle.checker.proofs.Lists.{sum_most, all_yes, list_is}
 use Rattle.checker.proofs.Ledgers.{role_below}
 use Rattle.checker.proofs.Moving.{moved_all}
@@ -68,9 +68,6 @@ module _ (l : Layout) (code before : List ℕ) (words : length before ≡ words_
       let at = first_from (code_fault l code) 0 (words_of code) in
       rw (first, same_fault l before code words at, zero-add at) refl
 
-  pub words_refused : (reason : Reason) → FirstFault l before code 0 0 (words_of code) reason → words_verdict l code ≡ reason_verdict reason
-  words_refused reason f = found ∙ first_refused l before code 0 accepted reason f
-
   pub words_passed : Faultless l before code 0 0 (words_of code) → words_verdict l code ≡ accepted
   words_passed f = found ∙ first_passed l before code 0 accepted f
 
@@ -90,6 +87,17 @@ module _ (l : Layout) (code before : List ℕ) (e1 : layout_holds l (length code
       let v : check_verdict l code (length before) ≡ refusal_of word.kind number (address_of l at) =
       by_words ∙ found l code before words ∙ rw (← place, zero-add at) (simp inside (ap₂ (λ (w : Reading) (x : ℕ). refusal_of w.kind x (address_of l at)) (sym read) (sym here))) in
       record { verdict = e ∙ sym v; ledger = sym (after_refusal _ _ _ (λ z. reason_not reason (e ∙ sym v ∙ z))) }
+
+  -- and so is the refusal that the search for it answers
+  pub words_refused : (reason : Reason) → FirstFault l before code 0 0 (words_of code) reason → words_verdict l code ≡ reason_verdict reason
+  words_refused reason f =
+      let number : ℕ = standing_fault l before code 0 f.at in
+      let place : f.at ≡ first_from (standing_fault l before code 0) 0 (length code / 4) =
+      sym (first_is (standing_fault l before code 0) 0 (length code / 4) f.at (omega arith) (let h = f.inside in omega arith) f.before f.breaks') in
+      let value : number ≡ cond (ltb f.at (0 + length code / 4)) number 0 = sym (simp (lt-ltb f.at (0 + length code / 4) (let h = f.inside in omega arith)) refl) in
+      let says : reason_verdict reason ≡ refusal_of (reading_at code f.at).kind number (address_of l f.at) =
+      f.says ∙ ap (λ (k : ℕ). refusal_of (reading_at code f.at).kind number (address_of l k)) (zero-add f.at) in
+      sym by_words ∙ sym (checked_word f.at number place value f.breaks' (reading_at code f.at) refl reason says).verdict
 
 -- ---- the ledger
 

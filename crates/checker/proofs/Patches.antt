@@ -7,7 +7,7 @@ use mathlib.Core.Bool.{Bool, true, cond, ◌&&◌}
 use mathlib.Core.List.{List}
 use lib.Dec.{ltb}
 use lib.ListN.{length, get_or}
-use borrow.Author.Tests.{lt-ltb, le-ltb, le-leb, lt-leb}
+use borrow.Author.Tests.{lt-ltb, le-ltb, le-leb, lt-leb, ltb-true}
 use Rattle.std.specs.Prelude.{Option, Some, None, Ok, Err}
 use Rattle.rules.specs.declared.layout.Layout.{Layout}
 use Rattle.rules.specs.declared.outcome.Reason.{Reason}
@@ -26,7 +26,7 @@ use Rattle.checker.specs.Patch.{counts_hold, roles_agree, old_counted, count_les
 use Rattle.checker.specs.parts.Patch.{Strands, strand_verdict, PatchedWords}
 use Rattle.checker.proofs.Demands.{after_refusal}
 use Rattle.checker.proofs.Checks.{fault_same}
-use Rattle.checker.proofs.First.{first_same}
+use Rattle.checker.proofs.First.{first_same, first_hit}
 use Rattle.checker.proofs.Lists.{split, list_is}
 use Rattle.checker.proofs.Undo.{Agreed, count_after}
 
@@ -67,11 +67,7 @@ module _ {l : Layout} {ledger : List ℕ} {first : ℕ} {old new mid : List ℕ}
       let k = first_from (standing_fault l ledger new first) 0 (words_of new) in
       rw (same, faults_kept k, strand_is) (simp g.agreed)
 
-  -- a refusal, with nothing changed
-  pub refused : (reason : Reason) → reason_verdict reason ≡ first_verdict l mid new first (strand_verdict l first strand) → (after : List ℕ) → after ≡ ledger → PatchedWords l ledger first old new after (Err reason)
-  refused reason e after same = let v = new_words ∙ sym e in record { verdict = sym v; ledger' = same ∙ sym (after_refusal _ _ _ (λ z. reason_not reason (sym v ∙ z))) }
-
-  -- that of the first new word that breaks a rule: no entry is changed, and no old byte
+  -- a refusal for the first new word that breaks a rule: no entry is changed, and no old byte
   pub faulty : (at number : ℕ) → at ≡ first_from (standing_fault l ledger new first) 0 (length new / 4)
       → number ≡ cond (ltb at (0 + length new / 4)) (standing_fault l ledger new first at) 0 → (number ≡ 0 → ⊥)
       → (word : Reading) → word ≡ reading_at new at → (reason : Reason) (after : List ℕ) → reason_verdict reason ≡ refusal_of word.kind number (address_of l (first + at)) → after ≡ ledger
@@ -84,6 +80,22 @@ module _ {l : Layout} {ledger : List ℕ} {first : ℕ} {old new mid : List ℕ}
       simp g.agreed (rw (← place) (simp inside (ap₂ (λ (w : Reading) (x : ℕ). refusal_of w.kind x (address_of l (first + at))) (sym read) (sym here)))) in
       let no : bundles_verdict l ledger first old new ≡ accepted → ⊥ = λ z. reason_not reason (e ∙ sym v ∙ z) in
       (record { verdict = e ∙ sym v; ledger' = same ∙ sym (after_refusal _ _ _ no) }, sym (after_refusal _ _ _ no))
+
+  -- that, or 14
+  pub refused : (reason : Reason) → reason_verdict reason ≡ first_verdict l mid new first (strand_verdict l first strand) → (after : List ℕ) → after ≡ ledger → PatchedWords l ledger first old new after (Err reason)
+  unfolding first_verdict
+  refused reason e after same =
+      let at : ℕ = first_from (standing_fault l ledger new first) 0 (length new / 4) in
+      let number : ℕ = standing_fault l ledger new first at in
+      let by_ledger : first_from (standing_fault l mid new first) 0 (length new / 4) ≡ at =
+      first_same (standing_fault l mid new first) (standing_fault l ledger new first) 0 (length new / 4) (λ j a b. faults_kept j) in
+      by_test (ltb at (length new / 4))
+      (λ inside.
+      let value : number ≡ cond (ltb at (0 + length new / 4)) number 0 = sym (rw (zero-add (length new / 4)) (simp inside refl)) in
+      let breaks' : number ≡ 0 → ⊥ = first_hit (standing_fault l ledger new first) 0 (length new / 4) (let h = ltb-true _ _ inside in omega arith) in
+      let says : reason_verdict reason ≡ refusal_of (reading_at new at).kind number (address_of l (first + at)) = e ∙ rw (by_ledger, faults_kept at) (simp inside refl) in
+      (faulty at number refl value breaks' (reading_at new at) refl reason after says same).0)
+      (λ past. let v = new_words ∙ sym e in record { verdict = sym v; ledger' = same ∙ sym (after_refusal _ _ _ (λ z. reason_not reason (sym v ∙ z))) })
 
   pub patched : accepted ≡ first_verdict l mid new first (strand_verdict l first strand) → (after : List ℕ) → after ≡ moved_ledger l ledger first old new → PatchedWords l ledger first old new after (Ok tt)
   unfolding ledger_after

@@ -1,4 +1,4 @@
--- The line of a refusal, with an address and without: laws of the definition, which the proof of `line_for` finds by itself.
+-- The line of an acceptance, and of a refusal with an address and without: laws of the definition, by which the proof of `line_for` goes.
 use Prim.Native.Nat.{ℕ, ◌≤◌}
 use native.Mathlib.Omega.{arith}
 use mathlib.Core.Path.{◌≡◌, refl, sym}
@@ -7,6 +7,10 @@ use mathlib.Core.List.{◌++◌}
 use Rattle.rules.specs.Outcome.{Verdict, accepted, refused, refused_at, no_class, number_of, carries_address, place_of}
 use Rattle.gate.specs.Text.{ascii, numeral}
 use Rattle.gate.specs.Line.{line_of}
+
+pub line_accepted : (v : Verdict) (bytes : ℕ) → v ≡ accepted → ascii "accepted " ++ numeral bytes ++ ascii " bytes\n" ≡ line_of v bytes
+unfolding line_of
+line_accepted v bytes e = rw e refl
 
 pub line_alone : (v : Verdict) (bytes : ℕ) → 1 ≤ number_of v → carries_address v ≡ false → ascii "refused " ++ numeral (number_of v) ++ ascii "\n" ≡ line_of v bytes
 unfolding line_of

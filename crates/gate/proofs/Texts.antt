@@ -1,4 +1,4 @@
--- A numeral is what `itoa` writes; and two laws of numerals and buffers, which no proof cites now.
+-- A numeral is what `itoa` writes; and two laws of numerals and buffers, which no proof cites.
 use Rattle.std.proofs.Common.{ℕ, ◌≡◌, ◌+◌, ◌-◌, ◌<◌, ◌≤◌, ◌^◌, List, ◌++◌, length, take, drop, ap, rules, arith}
 use Rattle.std.specs.Fmt.{decimal}
 use Rattle.std.proofs.lemmas.Fmt.{decimal_from_appends, length-decimal-le}

@@ -13,7 +13,7 @@ use rules::outcome::Reason;
 // The line for what the check answered.
 // By `write!` the proof stayed open: that says what it wrote only where it answers `Ok`, and no contract says
 // where that is.
-#[tactic(auto, unfolding(crate::specs::Line::line_of), using(crate::proofs::Texts::numeral_decimal))]
+#[tactic(auto, using(crate::proofs::Texts::numeral_decimal, crate::proofs::Lines::line_accepted, crate::proofs::Lines::line_alone, crate::proofs::Lines::line_at, rules::proofs::Reasons::reason_refuses))]
 fn line_for(answer: Result<(), Reason>, bytes: usize) -> ArrayString<64>
     ensures { result.bytes ≡ line_of (verdict_of answer) bytes }
 {

@@ -123,11 +123,12 @@ impl Setting {
         ensures told { verdict_of result ≡ word_verdict self.word.kind (fault_of self.region.layout self.region.words self.before self.word self.next self.slot self.address self.role) self.address }
     {
         let at = self.address;
+        let broken = self.rules();
         if let Kind::NoClass(why) = self.word.kind {
             return Err(Reason::NoClass { why, at });
         }
         // 5 to 11, in their places behind that of 4.
-        match self.rules() {
+        match broken {
             [_, true, ..] => Err(Reason::Register { at }),
             [_, _, true, ..] => Err(Reason::StackPointer { at }),
             [_, _, _, true, ..] => Err(Reason::Access { at }),
