@@ -19,7 +19,7 @@ use rules::region::Region;
 use rules::rule::landable;
 
 // No entry's count exceeds the number of words. A loop, since by `all` the patch of one bundle in long code, which is
-// mostly this pass, takes 1.4 times as long (docs/PERFORMANCE.md).
+// mostly this pass, takes 1.37 times the instructions (docs/PERFORMANCE.md).
 #[tactic(auto, unfolding(crate::specs::Patch::counts_hold), using(crate::proofs::Lists::all_yes))]
 fn counts_hold(ledger: &[u32]) -> bool
     ensures { result ≡ counts_hold ledger.now }
