@@ -25,7 +25,7 @@ use Rattle.checker.specs.Region.{role_at, before_at, reading_at, next_at}
 use Rattle.checker.specs.Standing.{target_at, landing_at, landings, target_role, fault_at, role_from, standing_fault}
 use Rattle.checker.specs.parts.Ledger.{RolesWritten, Within, fits, can_move, MovesUpTo}
 use Rattle.checker.specs.Check.{words_of, code_fault, words_verdict, check_verdict, entry_of, ledger_of, Checked}
-use Rattle.checker.proofs.First.{first_same, first_is}
+use Rattle.checker.proofs.First.{first_same, first_is, number_at, number_inside}
 use Rattle.checker.proofs.Faults.{first_passed}
 use Rattle.checker.proofs.Lists.{sum_most, all_yes, list_is}
 use Rattle.checker.proofs.Ledgers.{role_below}
@@ -82,10 +82,9 @@ module _ (l : Layout) (code before : List ℕ) (e1 : layout_holds l (length code
       → (word : Reading) → word ≡ reading_at code at → (reason : Reason) → reason_verdict reason ≡ refusal_of word.kind number (address_of l at) → Checked l code before before (Err reason)
   unfolding first_verdict
   checked_word at number place value n word read reason e =
-      let inside : ltb at (length code / 4) ≡ true = by_test (ltb at (length code / 4)) (λ t. t) (λ f. absurd (n (value ∙ ap (λ (b : Bool). cond b (standing_fault l before code 0 at) 0) (ap (ltb at) (zero-add (length code / 4)) ∙ f)))) in
-      let here : number ≡ standing_fault l before code 0 at = value ∙ ap (λ (b : Bool). cond b (standing_fault l before code 0 at) 0) (ap (ltb at) (zero-add (length code / 4)) ∙ inside) in
+      let told = number_inside (standing_fault l before code 0) (length code / 4) at number value n in
       let v : check_verdict l code (length before) ≡ refusal_of word.kind number (address_of l at) =
-      by_words ∙ found l code before words ∙ rw (← place, zero-add at) (simp inside (ap₂ (λ (w : Reading) (x : ℕ). refusal_of w.kind x (address_of l at)) (sym read) (sym here))) in
+      by_words ∙ found l code before words ∙ rw (← place, zero-add at) (simp told.0 (ap₂ (λ (w : Reading) (x : ℕ). refusal_of w.kind x (address_of l at)) (sym read) (sym told.1))) in
       record { verdict = e ∙ sym v; ledger = sym (after_refusal _ _ _ (λ z. reason_not reason (e ∙ sym v ∙ z))) }
 
   -- and so is the refusal that the search for it answers
@@ -94,10 +93,9 @@ module _ (l : Layout) (code before : List ℕ) (e1 : layout_holds l (length code
       let number : ℕ = standing_fault l before code 0 f.at in
       let place : f.at ≡ first_from (standing_fault l before code 0) 0 (length code / 4) =
       sym (first_is (standing_fault l before code 0) 0 (length code / 4) f.at (omega arith) (let h = f.inside in omega arith) f.before f.breaks') in
-      let value : number ≡ cond (ltb f.at (0 + length code / 4)) number 0 = sym (simp (lt-ltb f.at (0 + length code / 4) (let h = f.inside in omega arith)) refl) in
       let says : reason_verdict reason ≡ refusal_of (reading_at code f.at).kind number (address_of l f.at) =
       f.says ∙ ap (λ (k : ℕ). refusal_of (reading_at code f.at).kind number (address_of l k)) (zero-add f.at) in
-      sym by_words ∙ sym (checked_word f.at number place value f.breaks' (reading_at code f.at) refl reason says).verdict
+      sym by_words ∙ sym (checked_word f.at number place (number_at (standing_fault l before code 0) (length code / 4) f.at f.inside) f.breaks' (reading_at code f.at) refl reason says).verdict
 
 -- ---- the ledger
 

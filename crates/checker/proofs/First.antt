@@ -1,12 +1,13 @@
 -- The laws of `first_from`: it stays within its range, f is not zero where it stops short of the end and zero before, and nowhere else.
+-- Last, what the number that is told with such a place says.
 use Prim.Native.Nat.{ℕ, zero, suc, ◌+◌, ◌≤◌, ◌<◌}
 use native.Mathlib.Nat.{add-zero, zero-add, suc-add, add-suc, le_refl}
 use native.Mathlib.Numerals.{add-one}
 use native.Mathlib.Omega.{arith}
-use mathlib.Core.Path.{◌≡◌, refl, sym, ap₂, subst}
-use mathlib.Core.Bool.{Bool, cond}
-use lib.Dec.{eqb}
-use borrow.Author.Tests.{eqb-true, eqb-false, eq-eqb, ne_eqb}
+use mathlib.Core.Path.{◌≡◌, ◌∙◌, refl, sym, ap, ap₂, subst}
+use mathlib.Core.Bool.{Bool, true, false, cond}
+use lib.Dec.{eqb, ltb}
+use borrow.Author.Tests.{eqb-true, eqb-false, eq-eqb, ne_eqb, lt-ltb}
 use native.Mathlib.Decide.{ℕ_discrete}
 use Rattle.std.specs.Prelude.{IfSome, unwrap_or}
 use Rattle.std.specs.List.{find, range_with_len}
@@ -91,3 +92,14 @@ module _ (p : ℕ → Bool) (f : ℕ → ℕ) (e : (k : ℕ) → f k ≡ cond (p
 
   pub first_found : (n : ℕ) → IfSome (find p (range_with_len 0 n)) (λ k. k < n) × (unwrap_or (find p (range_with_len 0 n)) n ≡ first_from f 0 n)
   first_found n = rw (zero-add n) at (found_from 0 n)
+
+-- it is what f is there, or 0 past the end
+pub number_at : (f : ℕ → ℕ) (c k : ℕ) → k < c → f k ≡ cond (ltb k (0 + c)) (f k) 0
+number_at f c k h = sym (simp (lt-ltb k (0 + c) (omega arith)) refl)
+
+-- so where it is not 0, the place is inside
+pub number_inside : (f : ℕ → ℕ) (c k number : ℕ) → number ≡ cond (ltb k (0 + c)) (f k) 0 → (number ≡ 0 → ⊥) → (ltb k c ≡ true) × (number ≡ f k)
+number_inside f c k number told n =
+    let there : number ≡ cond (ltb k c) (f k) 0 = told ∙ ap (λ (m : ℕ). cond (ltb k m) (f k) 0) (zero-add c) in
+    let by : (b : Bool) → ltb k c ≡ b → number ≡ cond b (f k) 0 = λ b e. there ∙ ap (λ (b : Bool). cond b (f k) 0) e in
+    by_test (ltb k c) (λ e. (e, by true e)) (λ e. absurd (n (by false e)))

@@ -1,9 +1,9 @@
 -- The patch, on plain values: each of its answers is the one that the definition gives.
 use Prim.Native.Nat.{ℕ, ◌+◌, ◌-◌, ◌*◌, ◌/◌, ◌%◌, ◌≤◌, ◌<◌}
-use native.Mathlib.Nat.{zero-add, le_refl}
+use native.Mathlib.Nat.{le_refl}
 use native.Mathlib.Omega.{arith}
 use mathlib.Core.Path.{◌≡◌, ◌∙◌, refl, sym, ap, ap₂, subst}
-use mathlib.Core.Bool.{Bool, true, cond, ◌&&◌}
+use mathlib.Core.Bool.{true, cond, ◌&&◌}
 use mathlib.Core.List.{List}
 use lib.Dec.{ltb}
 use lib.ListN.{length, get_or}
@@ -26,7 +26,7 @@ use Rattle.checker.specs.Patch.{counts_hold, roles_agree, old_counted, count_les
 use Rattle.checker.specs.parts.Patch.{Strands, strand_verdict, PatchedWords}
 use Rattle.checker.proofs.Demands.{after_refusal}
 use Rattle.checker.proofs.Checks.{fault_same}
-use Rattle.checker.proofs.First.{first_same, first_hit}
+use Rattle.checker.proofs.First.{first_same, first_hit, number_at, number_inside}
 use Rattle.checker.proofs.Lists.{split, list_is}
 use Rattle.checker.proofs.Undo.{Agreed, count_after}
 
@@ -74,10 +74,9 @@ module _ {l : Layout} {ledger : List ℕ} {first : ℕ} {old new mid : List ℕ}
       → PatchedWords l ledger first old new after (Err reason) × (old ≡ ledger_after (bundles_verdict l ledger first old new) new old)
   unfolding bundles_verdict new_words_verdict
   faulty at number place value n word read reason after e same =
-      let inside : ltb at (length new / 4) ≡ true = by_test (ltb at (length new / 4)) (λ t. t) (λ f. absurd (n (value ∙ ap (λ (b : Bool). cond b (standing_fault l ledger new first at) 0) (ap (ltb at) (zero-add (length new / 4)) ∙ f)))) in
-      let here : number ≡ standing_fault l ledger new first at = value ∙ ap (λ (b : Bool). cond b (standing_fault l ledger new first at) 0) (ap (ltb at) (zero-add (length new / 4)) ∙ inside) in
+      let told = number_inside (standing_fault l ledger new first) (length new / 4) at number value n in
       let v : bundles_verdict l ledger first old new ≡ refusal_of word.kind number (address_of l (first + at)) =
-      simp g.agreed (rw (← place) (simp inside (ap₂ (λ (w : Reading) (x : ℕ). refusal_of w.kind x (address_of l (first + at))) (sym read) (sym here)))) in
+      simp g.agreed (rw (← place) (simp told.0 (ap₂ (λ (w : Reading) (x : ℕ). refusal_of w.kind x (address_of l (first + at))) (sym read) (sym told.1)))) in
       let no : bundles_verdict l ledger first old new ≡ accepted → ⊥ = λ z. reason_not reason (e ∙ sym v ∙ z) in
       (record { verdict = e ∙ sym v; ledger' = same ∙ sym (after_refusal _ _ _ no) }, sym (after_refusal _ _ _ no))
 
@@ -91,10 +90,9 @@ module _ {l : Layout} {ledger : List ℕ} {first : ℕ} {old new mid : List ℕ}
       first_same (standing_fault l mid new first) (standing_fault l ledger new first) 0 (length new / 4) (λ j a b. faults_kept j) in
       by_test (ltb at (length new / 4))
       (λ inside.
-      let value : number ≡ cond (ltb at (0 + length new / 4)) number 0 = sym (rw (zero-add (length new / 4)) (simp inside refl)) in
       let breaks' : number ≡ 0 → ⊥ = first_hit (standing_fault l ledger new first) 0 (length new / 4) (let h = ltb-true _ _ inside in omega arith) in
       let says : reason_verdict reason ≡ refusal_of (reading_at new at).kind number (address_of l (first + at)) = e ∙ rw (by_ledger, faults_kept at) (simp inside refl) in
-      (faulty at number refl value breaks' (reading_at new at) refl reason after says same).0)
+      (faulty at number refl (number_at (standing_fault l ledger new first) (length new / 4) at (ltb-true _ _ inside)) breaks' (reading_at new at) refl reason after says same).0)
       (λ past. let v = new_words ∙ sym e in record { verdict = sym v; ledger' = same ∙ sym (after_refusal _ _ _ (λ z. reason_not reason (sym v ∙ z))) })
 
   pub patched : accepted ≡ first_verdict l mid new first (strand_verdict l first strand) → (after : List ℕ) → after ≡ moved_ledger l ledger first old new → PatchedWords l ledger first old new after (Ok tt)
